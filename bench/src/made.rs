@@ -1,0 +1,304 @@
+//! Made-up tables, sites and questions, the same in every run.
+
+use crate::naive::{image_of, Station};
+use crate::question::Proposal;
+
+/// Numbers that look like chance: xorshift from a seed.
+pub struct Chance {
+    state: u64,
+}
+
+impl Chance {
+    pub fn new(seed: u64) -> Chance {
+        Chance {
+            state: seed.wrapping_mul(0x9E37_79B9_7F4A_7C15) | 1,
+        }
+    }
+
+    fn next(&mut self) -> u64 {
+        self.state ^= self.state << 13;
+        self.state ^= self.state >> 7;
+        self.state ^= self.state << 17;
+        self.state.wrapping_mul(0x2545_F491_4F6C_DD1D) >> 16
+    }
+
+    /// A number from `least` to `most`.
+    pub fn from(&mut self, least: i64, most: i64) -> i64 {
+        least + (self.next() % (most - least + 1) as u64) as i64
+    }
+
+    /// Once in `n` times.
+    pub fn once_in(&mut self, n: i64) -> bool {
+        self.from(1, n) == 1
+    }
+
+    /// One of several.
+    pub fn one_of<T: Copy>(&mut self, several: &[T]) -> T {
+        several[self.from(0, several.len() as i64 - 1) as usize]
+    }
+}
+
+/// A region: 33 to 47 degrees north, 70 to 100 degrees west, in seconds.
+const REGION: Area = Area {
+    lat: (33 * 3_600, 47 * 3_600),
+    lon: (-100 * 3_600, -70 * 3_600),
+};
+
+/// A rectangle of latitudes and longitudes, both ends inside.
+#[derive(Clone, Copy, Debug)]
+pub struct Area {
+    pub lat: (i64, i64),
+    pub lon: (i64, i64),
+}
+
+impl Area {
+    /// The rectangle of so many seconds around a site, cut at the ends of the ranges.
+    pub fn around(lat: i64, lon: i64, seconds: i64) -> Area {
+        let cut = |x: i64, end: i64| x.clamp(-end, end);
+        Area {
+            lat: (cut(lat - seconds, 270_000), cut(lat + seconds, 270_000)),
+            lon: (cut(lon - seconds, 648_000), cut(lon + seconds, 648_000)),
+        }
+    }
+
+    fn site(&self, chance: &mut Chance) -> (i32, i32) {
+        let lat = chance.from(self.lat.0, self.lat.1);
+        let lon = chance.from(self.lon.0, self.lon.1);
+        (lat as i32, lon as i32)
+    }
+}
+
+/// Stations in an area on channels from `least` to `most`, of all classes, a quarter of them fixed.
+fn spread(chance: &mut Chance, count: usize, area: Area, least: i64, most: i64) -> Vec<Station> {
+    let mut id = 0;
+    let mut stations = Vec::new();
+    for _ in 0..count {
+        id += chance.from(1, 9) as u32;
+        let (lat, lon) = area.site(chance);
+        stations.push(Station {
+            id,
+            channel: chance.from(least, most) as u32,
+            class: chance.from(0, 7) as u32,
+            flags: u32::from(chance.once_in(4)),
+            lat,
+            lon,
+        });
+    }
+    stations
+}
+
+/// A table of a region.
+pub fn region(seed: u64, count: usize) -> Vec<u8> {
+    image_of(&spread(&mut Chance::new(seed), count, REGION, 201, 300))
+}
+
+/// Proposals at sites of the region, each of a class that its zone permits.
+pub fn region_proposals(seed: u64, count: usize) -> Vec<Proposal> {
+    let mut chance = Chance::new(seed);
+    (0..count)
+        .map(|_| proposal_in(&mut chance, REGION))
+        .collect()
+}
+
+/// A proposal in an area, of a class that its zone permits.
+pub fn proposal_in(chance: &mut Chance, area: Area) -> Proposal {
+    let zone = chance.from(1, 3) as u32;
+    let station_class = if zone == 3 {
+        chance.one_of(&[0, 3, 4, 5, 6, 7])
+    } else {
+        chance.one_of(&[0, 1, 2])
+    };
+    let (lat, lon) = area.site(chance);
+    Proposal {
+        station_class,
+        zone,
+        lat,
+        lon,
+    }
+}
+
+/// The manners in which a scene is made.
+#[derive(Clone, Copy, Debug, PartialEq, Eq)]
+pub enum Manner {
+    /// Spread over the region.
+    Region,
+    /// Within the reach of each other, on all channels.
+    Cluster,
+    /// Few and near, so that most blocked channels have one blocker.
+    Lone,
+    /// At the ends of the ranges of latitude and longitude.
+    Ends,
+    /// Mostly on channels up to 220, and on those 53 and 54 above.
+    Low,
+    /// On few channels at few sites, at the distances of Table A.
+    Limits,
+}
+
+/// Every manner.
+pub const MANNERS: [Manner; 6] = [
+    Manner::Region,
+    Manner::Cluster,
+    Manner::Lone,
+    Manner::Ends,
+    Manner::Low,
+    Manner::Limits,
+];
+
+/// Stations, and a place from which to ask about them.
+#[derive(Clone, Debug)]
+pub struct Scene {
+    pub stations: Vec<Station>,
+    pub area: Area,
+}
+
+impl Scene {
+    pub fn table(&self) -> Vec<u8> {
+        image_of(&self.stations)
+    }
+}
+
+/// A scene of up to `most` stations.
+pub fn scene(chance: &mut Chance, manner: Manner, most: usize) -> Scene {
+    let count = chance.from(0, most as i64) as usize;
+    let lat = chance.from(-270_000, 270_000);
+    let lon = chance.from(-648_000, 648_000);
+    match manner {
+        Manner::Region => {
+            let area = Area::around(lat, lon, 18_000);
+            Scene {
+                stations: spread(chance, count, area, 201, 300),
+                area,
+            }
+        }
+        Manner::Cluster => {
+            let area = Area::around(lat, lon, 4_000);
+            Scene {
+                stations: spread(chance, count, area, 201, 300),
+                area,
+            }
+        }
+        Manner::Lone => {
+            let area = Area::around(lat, lon, 1_500);
+            let few = count.min(chance.from(0, 6) as usize);
+            let mut stations = spread(chance, few, area, 201, 300);
+            if chance.once_in(2) {
+                stations.iter_mut().for_each(|station| station.flags = 0);
+            }
+            Scene { stations, area }
+        }
+        Manner::Ends => {
+            let lat = chance.one_of(&[-270_000, 0, 270_000]);
+            let lon = chance.one_of(&[-648_000, 0, 648_000]);
+            let area = Area::around(lat, lon, chance.one_of(&[0, 1, 5_000]));
+            let mut stations = spread(chance, count, area, 201, 300);
+            for station in &mut stations {
+                if chance.once_in(3) {
+                    station.lat = -station.lat;
+                }
+                if chance.once_in(3) {
+                    station.lon = -station.lon;
+                }
+            }
+            Scene { stations, area }
+        }
+        Manner::Low => {
+            let area = Area::around(lat, lon, 1_000);
+            let mut stations = spread(chance, count, area, 201, 224);
+            for station in &mut stations {
+                if chance.once_in(3) {
+                    station.channel += chance.from(53, 54) as u32;
+                }
+            }
+            Scene { stations, area }
+        }
+        Manner::Limits => {
+            let mut stations = spread(chance, count, Area::around(lat, lon, 0), 245, 255);
+            let (lat, lon) = (lat as i32, lon as i32);
+            for station in &mut stations {
+                let column = chance.from(0, 3) as usize;
+                let class = chance.from(0, 7) as u32;
+                let decimetres =
+                    10_000 * i64::from(crate::naive::km(class, station.class, column)) - 5_000;
+                let (_, q) = crate::naive::degrees(i128::from(lat.unsigned_abs()) * 2);
+                let seconds = (decimetres * 3_600_000 / q as i64 + chance.from(-1, 2)) as i32;
+                let lon = if lon > 0 {
+                    lon - seconds
+                } else {
+                    lon + seconds
+                };
+                station.lon = lon.clamp(-648_000, 648_000);
+            }
+            Scene {
+                stations,
+                area: Area::around(i64::from(lat), i64::from(lon), 0),
+            }
+        }
+    }
+}
+
+/// The refusals that a damaged table can get.
+pub const DAMAGES: std::ops::RangeInclusive<u32> = 1..=12;
+
+/// A table damaged in the way of one refusal; in a table without records some of these ways change nothing.
+pub fn damaged(chance: &mut Chance, table: &[u8], number: u32) -> Vec<u8> {
+    let mut table = table.to_vec();
+    let count = (table.len() - 8) / 16;
+    let at = 8 + 16 * chance.from(0, (count as i64 - 1).max(0)) as usize;
+    let bit = 1 << chance.from(0, 7);
+    match number {
+        1 => table.truncate(chance.from(0, 7) as usize),
+        2 => table[chance.from(0, 2) as usize] ^= bit,
+        3 => table[chance.from(3, 4) as usize] ^= bit,
+        4 => table[5] ^= bit,
+        5 => {
+            let count = chance.one_of(&[2_001, 2_002, 4_000, 65_535]);
+            put(&mut table, 6, &(count as u16).to_be_bytes());
+            if chance.once_in(2) {
+                table.resize(8 + 16 * count, 0);
+            }
+        }
+        6 => {
+            let length = table.len() as i64 + chance.one_of(&[-16, -1, 1, 15, 16, 17]);
+            table.resize(length.max(8) as usize, chance.one_of(&[0, 255]));
+        }
+        7 => {
+            let before = if at > 8 {
+                number_at(&table, at - 16)
+            } else {
+                0
+            };
+            let id = chance.one_of(&[0, before, before.saturating_sub(1)]);
+            put(&mut table, at, &id.to_be_bytes());
+        }
+        8 => {
+            let channel = chance.one_of(&[0u16, 200, 301, 456, 457, 512, 65_535]);
+            put(&mut table, at + 4, &channel.to_be_bytes());
+        }
+        9 => put(&mut table, at + 6, &[chance.one_of(&[8, 9, 16, 128, 255])]),
+        10 => put(
+            &mut table,
+            at + 7,
+            &[chance.one_of(&[2, 3, 4, 5, 128, 129, 255])],
+        ),
+        11 => {
+            let lat = chance.one_of(&[-270_001, 270_001, i32::MIN, i32::MAX]);
+            put(&mut table, at + 8, &lat.to_be_bytes());
+        }
+        _ => {
+            let lon = chance.one_of(&[-648_001, 648_001, i32::MIN, i32::MAX]);
+            put(&mut table, at + 12, &lon.to_be_bytes());
+        }
+    }
+    table
+}
+
+/// Bytes into a table, where it reaches so far.
+fn put(table: &mut [u8], at: usize, bytes: &[u8]) {
+    if let Some(place) = table.get_mut(at..at + bytes.len()) {
+        place.copy_from_slice(bytes);
+    }
+}
+
+fn number_at(table: &[u8], at: usize) -> u32 {
+    u32::from_be_bytes([table[at], table[at + 1], table[at + 2], table[at + 3]])
+}

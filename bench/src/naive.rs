@@ -1,0 +1,505 @@
+//! The seven questions as the paper says them, in the plainest words and wide numbers.
+
+use crate::question::{Answer, Proposal, Question};
+
+/// One record of a table.
+#[derive(Clone, Copy, Debug, PartialEq, Eq)]
+pub struct Station {
+    pub id: u32,
+    pub channel: u32,
+    pub class: u32,
+    pub flags: u32,
+    pub lat: i32,
+    pub lon: i32,
+}
+
+impl Station {
+    /// Not fixed, and above channel 220.
+    pub fn movable(&self) -> bool {
+        self.flags & 1 == 0 && self.channel > 220
+    }
+}
+
+/// A refusal's number and its extra number.
+struct Refusal {
+    number: u32,
+    extra: usize,
+}
+
+fn refuse<T>(number: u32, extra: usize) -> Result<T, Refusal> {
+    Err(Refusal { number, extra })
+}
+
+const A: u32 = 0;
+const B1: u32 = 1;
+const B: u32 = 2;
+const C3: u32 = 3;
+const C2: u32 = 4;
+const C1: u32 = 5;
+const C0: u32 = 6;
+const C: u32 = 7;
+
+/// Table A of §73.207(b)(1): the km of the four columns for each pair of classes.
+const TABLE_A: [(u32, u32, [u32; 4]); 36] = [
+    (A, A, [115, 72, 31, 10]),
+    (A, B1, [143, 96, 48, 12]),
+    (A, B, [178, 113, 69, 15]),
+    (A, C3, [142, 89, 42, 12]),
+    (A, C2, [166, 106, 55, 15]),
+    (A, C1, [200, 133, 75, 22]),
+    (A, C0, [215, 152, 86, 25]),
+    (A, C, [226, 165, 95, 29]),
+    (B1, B1, [175, 114, 50, 14]),
+    (B1, B, [211, 145, 71, 17]),
+    (B1, C3, [175, 114, 50, 14]),
+    (B1, C2, [200, 134, 56, 17]),
+    (B1, C1, [233, 161, 77, 24]),
+    (B1, C0, [248, 180, 87, 27]),
+    (B1, C, [259, 193, 105, 31]),
+    (B, B, [241, 169, 74, 20]),
+    (B, C3, [211, 145, 71, 17]),
+    (B, C2, [241, 169, 74, 20]),
+    (B, C1, [270, 195, 79, 27]),
+    (B, C0, [272, 214, 89, 31]),
+    (B, C, [274, 217, 105, 35]),
+    (C3, C3, [153, 99, 43, 14]),
+    (C3, C2, [177, 117, 56, 17]),
+    (C3, C1, [211, 144, 76, 24]),
+    (C3, C0, [226, 163, 87, 27]),
+    (C3, C, [237, 176, 96, 31]),
+    (C2, C2, [190, 130, 58, 20]),
+    (C2, C1, [224, 158, 79, 27]),
+    (C2, C0, [239, 176, 89, 31]),
+    (C2, C, [249, 188, 105, 35]),
+    (C1, C1, [245, 177, 82, 34]),
+    (C1, C0, [259, 196, 94, 37]),
+    (C1, C, [270, 209, 105, 41]),
+    (C0, C0, [270, 207, 96, 41]),
+    (C0, C, [281, 220, 105, 45]),
+    (C, C, [290, 241, 105, 48]),
+];
+
+/// The km of Table A for two classes in any order, at a column.
+pub fn km(a: u32, b: u32, column: usize) -> u32 {
+    for (first, second, columns) in TABLE_A {
+        if (first, second) == (a, b) || (first, second) == (b, a) {
+            return columns[column];
+        }
+    }
+    unreachable!("every pair of classes stands in Table A")
+}
+
+const E: i128 = 1_000_000_000;
+
+/// The cosines of 1 to 5 times a mean latitude of h half-seconds; index 0 is not used.
+pub fn cosines(h: i128) -> [i128; 6] {
+    let x = h * 2_424_068_405_548 / E;
+    let mut t = E;
+    let mut c1 = t;
+    for k in 0..9 {
+        t = (t * x / E) * x / E / ((2 * k + 1) * (2 * k + 2));
+        c1 += if k % 2 == 0 { -t } else { t };
+    }
+    let c2 = 2 * (c1 * c1 / E) - E;
+    let c4 = 2 * (c2 * c2 / E) - E;
+    let c3 = 2 * (c1 * c2 / E) - c1;
+    let c5 = 2 * (c1 * c4 / E) - c3;
+    [0, c1, c2, c3, c4, c5]
+}
+
+/// P and Q at a mean latitude of h half-seconds.
+pub fn degrees(h: i128) -> (i128, i128) {
+    let [_, c1, c2, c3, c4, c5] = cosines(h);
+    let p = 1_111_320_900 - 5_660_500 * c2 / E + 12_000 * c4 / E;
+    let q = 1_114_151_300 * c1 / E - 945_500 * c3 / E + 1_200 * c5 / E;
+    (p, q)
+}
+
+/// S, in square decimetres.
+pub fn squared(lat1: i32, lon1: i32, lat2: i32, lon2: i32) -> i128 {
+    let [lat1, lon1, lat2, lon2] = [lat1, lon1, lat2, lon2].map(i128::from);
+    let (p, q) = degrees((lat1 + lat2).abs());
+    let ns = (lat1 - lat2).abs() * p / 3_600_000;
+    let ew = (lon1 - lon2).abs() * q / 3_600_000;
+    ns * ns + ew * ew
+}
+
+/// The least D with S below (10,000 D + 5,000)²; so S is at least (10,000 D - 5,000)² where D is above 0.
+pub fn rounded(s: i128) -> u32 {
+    let below = |d: i128| s < (10_000 * d + 5_000) * (10_000 * d + 5_000);
+    let (mut no, mut yes) = (-1, 1_000_000);
+    while yes - no > 1 {
+        let middle = (no + yes) / 2;
+        if below(middle) {
+            yes = middle;
+        } else {
+            no = middle;
+        }
+    }
+    yes as u32
+}
+
+/// D of two stations.
+fn kilometres(a: &Station, b: &Station) -> u32 {
+    rounded(squared(a.lat, a.lon, b.lat, b.lon))
+}
+
+/// The requirement R of two stations, where there is one.
+pub fn separation(a: &Station, b: &Station) -> Option<u32> {
+    if a.channel <= 220 && b.channel <= 220 {
+        return None;
+    }
+    let column = match a.channel.abs_diff(b.channel) {
+        0 => 0,
+        1 => 1,
+        2 | 3 => 2,
+        53 | 54 => 3,
+        _ => return None,
+    };
+    Some(km(a.class, b.class, column))
+}
+
+/// Two stations are short: D is below R.
+pub fn short(a: &Station, b: &Station) -> bool {
+    match separation(a, b) {
+        Some(r) => kilometres(a, b) < r,
+        None => false,
+    }
+}
+
+fn site_in_range(lat: i32, lon: i32) -> bool {
+    (-270_000..=270_000).contains(&lat) && (-648_000..=648_000).contains(&lon)
+}
+
+fn number(bytes: &[u8]) -> u32 {
+    bytes
+        .iter()
+        .fold(0, |so_far, &byte| so_far << 8 | u32::from(byte))
+}
+
+/// The stations of a table, or its refusal.
+fn judge(table: &[u8]) -> Result<Vec<Station>, Refusal> {
+    if table.len() < 8 {
+        return refuse(1, 0);
+    }
+    if &table[0..3] != b"FMS" {
+        return refuse(2, 0);
+    }
+    if number(&table[3..5]) != 1 {
+        return refuse(3, 0);
+    }
+    if table[5] != 0 {
+        return refuse(4, 0);
+    }
+    let count = number(&table[6..8]) as usize;
+    if count > 2_000 {
+        return refuse(5, 0);
+    }
+    if table.len() != 8 + 16 * count {
+        return refuse(6, 0);
+    }
+    let mut stations: Vec<Station> = Vec::new();
+    for (position, record) in table[8..].chunks(16).enumerate() {
+        let station = Station {
+            id: number(&record[0..4]),
+            channel: number(&record[4..6]),
+            class: number(&record[6..7]),
+            flags: number(&record[7..8]),
+            lat: number(&record[8..12]) as i32,
+            lon: number(&record[12..16]) as i32,
+        };
+        if station.id == 0
+            || stations
+                .last()
+                .is_some_and(|before| station.id <= before.id)
+        {
+            return refuse(7, position);
+        }
+        if !(201..=300).contains(&station.channel) {
+            return refuse(8, position);
+        }
+        if station.class > 7 {
+            return refuse(9, position);
+        }
+        if station.flags & !1 != 0 {
+            return refuse(10, position);
+        }
+        if !site_in_range(station.lat, 0) {
+            return refuse(11, position);
+        }
+        if !site_in_range(0, station.lon) {
+            return refuse(12, position);
+        }
+        stations.push(station);
+    }
+    Ok(stations)
+}
+
+/// The image of a list of stations.
+pub fn image_of(stations: &[Station]) -> Vec<u8> {
+    let mut image = b"FMS".to_vec();
+    image.extend(1u16.to_be_bytes());
+    image.push(0);
+    image.extend((stations.len() as u16).to_be_bytes());
+    for station in stations {
+        image.extend(station.id.to_be_bytes());
+        image.extend((station.channel as u16).to_be_bytes());
+        image.push(station.class as u8);
+        image.push(station.flags as u8);
+        image.extend(station.lat.to_be_bytes());
+        image.extend(station.lon.to_be_bytes());
+    }
+    image
+}
+
+/// The checks 13 to 17 of what is asked.
+fn judge_proposal(first: u32, last: u32, proposal: &Proposal) -> Result<(), Refusal> {
+    judge_channel(first)?;
+    judge_channel(last)?;
+    if first > last {
+        return refuse(13, 0);
+    }
+    if proposal.station_class > 7 {
+        return refuse(14, 0);
+    }
+    let permitted: &[u32] = match proposal.zone {
+        1 | 2 => &[A, B1, B],
+        3 => &[A, C3, C2, C1, C0, C],
+        _ => return refuse(15, 0),
+    };
+    if !permitted.contains(&proposal.station_class) {
+        return refuse(16, 0);
+    }
+    if !site_in_range(proposal.lat, proposal.lon) {
+        return refuse(17, 0);
+    }
+    Ok(())
+}
+
+fn judge_channel(channel: u32) -> Result<(), Refusal> {
+    if !(221..=300).contains(&channel) {
+        return refuse(13, 0);
+    }
+    Ok(())
+}
+
+/// The station that a proposal would be on a channel.
+fn proposed(id: u32, channel: u32, proposal: &Proposal) -> Station {
+    Station {
+        id,
+        channel,
+        class: proposal.station_class,
+        flags: 0,
+        lat: proposal.lat,
+        lon: proposal.lon,
+    }
+}
+
+/// The positions of the stations that are short to one, a position left out.
+fn short_to(stations: &[Station], one: &Station, left_out: Option<usize>) -> Vec<usize> {
+    (0..stations.len())
+        .filter(|&i| Some(i) != left_out && short(one, &stations[i]))
+        .collect()
+}
+
+fn position_of(stations: &[Station], id: u32) -> Option<usize> {
+    stations.iter().position(|station| station.id == id)
+}
+
+fn added(table: &[u8], id: u32, channel: u32, proposal: &Proposal) -> Result<Vec<u8>, Refusal> {
+    let mut stations = judge(table)?;
+    judge_proposal(channel, channel, proposal)?;
+    if id == 0 {
+        return refuse(18, 0);
+    }
+    if let Some(position) = position_of(&stations, id) {
+        return refuse(19, position);
+    }
+    let station = proposed(id, channel, proposal);
+    if let Some(&position) = short_to(&stations, &station, None).first() {
+        return refuse(20, position);
+    }
+    if stations.len() == 2_000 {
+        return refuse(21, 0);
+    }
+    stations.push(station);
+    stations.sort_by_key(|station| station.id);
+    Ok(image_of(&stations))
+}
+
+fn withdrawn(table: &[u8], id: u32) -> Result<Vec<u8>, Refusal> {
+    let mut stations = judge(table)?;
+    let Some(position) = position_of(&stations, id) else {
+        return refuse(23, 0);
+    };
+    stations.remove(position);
+    Ok(image_of(&stations))
+}
+
+fn moved(table: &[u8], id: u32, channel: u32) -> Result<Vec<u8>, Refusal> {
+    let mut stations = judge(table)?;
+    judge_channel(channel)?;
+    let Some(position) = position_of(&stations, id) else {
+        return refuse(23, 0);
+    };
+    if !stations[position].movable() {
+        return refuse(25, position);
+    }
+    stations[position].channel = channel;
+    if let Some(&other) = short_to(&stations, &stations[position], Some(position)).first() {
+        return refuse(20, other);
+    }
+    Ok(image_of(&stations))
+}
+
+fn checked(table: &[u8], channel: u32, proposal: &Proposal) -> Result<Vec<u32>, Refusal> {
+    let stations = judge(table)?;
+    judge_proposal(channel, channel, proposal)?;
+    let new = proposed(0, channel, proposal);
+    let mut rows = Vec::new();
+    for station in stations {
+        if let Some(r) = separation(&new, &station) {
+            let d = kilometres(&new, &station);
+            if d < r {
+                rows.extend([station.id, d, r]);
+            }
+        }
+    }
+    Ok(rows)
+}
+
+fn arranged(table: &[u8], first: u32, last: u32, proposal: &Proposal) -> Result<Vec<u32>, Refusal> {
+    let stations = judge(table)?;
+    judge_proposal(first, last, proposal)?;
+    let mut rows = Vec::new();
+    for channel in first..=last {
+        let new = proposed(0, channel, proposal);
+        let blockers = short_to(&stations, &new, None);
+        if blockers.is_empty() {
+            rows.extend([channel, 0, 0]);
+            continue;
+        }
+        for (position, station) in stations.iter().enumerate() {
+            if !station.movable() || blockers.iter().any(|&blocker| blocker != position) {
+                continue;
+            }
+            for moved_channel in 221..=300 {
+                let moved = Station {
+                    channel: moved_channel,
+                    ..*station
+                };
+                if moved_channel != station.channel
+                    && !short(&new, &moved)
+                    && short_to(&stations, &moved, Some(position)).is_empty()
+                {
+                    rows.extend([channel, station.id, moved_channel]);
+                }
+            }
+        }
+    }
+    Ok(rows)
+}
+
+/// Writes what is granted, if it fits.
+fn delivered<T: Copy>(outcome: Result<Vec<T>, Refusal>, buffer: &mut [T]) -> Answer {
+    match outcome {
+        Err(Refusal { number, extra }) => Answer::Refused {
+            number,
+            extra: extra as u32,
+        },
+        Ok(content) if buffer.len() < content.len() => Answer::Refused {
+            number: 22,
+            extra: content.len() as u32,
+        },
+        Ok(content) => {
+            buffer[..content.len()].copy_from_slice(&content);
+            Answer::Granted(content.len() as u32)
+        }
+    }
+}
+
+/// The judgement of a table: the count of its records.
+pub fn read(table: &[u8]) -> Answer {
+    match judge(table) {
+        Ok(stations) => Answer::Granted(stations.len() as u32),
+        Err(Refusal { number, extra }) => Answer::Refused {
+            number,
+            extra: extra as u32,
+        },
+    }
+}
+
+/// The rounded distance between two sites, up to 475 km.
+pub fn distance(lat1: i32, lon1: i32, lat2: i32, lon2: i32) -> Answer {
+    if !site_in_range(lat1, lon1) || !site_in_range(lat2, lon2) {
+        return Answer::Refused {
+            number: 17,
+            extra: 0,
+        };
+    }
+    let d = rounded(squared(lat1, lon1, lat2, lon2));
+    if d > 475 {
+        return Answer::Refused {
+            number: 24,
+            extra: 0,
+        };
+    }
+    Answer::Granted(d)
+}
+
+/// The table with one more station.
+pub fn add(table: &[u8], id: u32, channel: u32, proposal: &Proposal, image: &mut [u8]) -> Answer {
+    delivered(added(table, id, channel, proposal), image)
+}
+
+/// The table without a station.
+pub fn withdraw(table: &[u8], id: u32, image: &mut [u8]) -> Answer {
+    delivered(withdrawn(table, id), image)
+}
+
+/// The table with a station on another channel.
+pub fn move_to(table: &[u8], id: u32, channel: u32, image: &mut [u8]) -> Answer {
+    delivered(moved(table, id, channel), image)
+}
+
+/// The stations to which a proposal is short: id, D and R of each.
+pub fn check(table: &[u8], channel: u32, proposal: &Proposal, rows: &mut [u32]) -> Answer {
+    delivered(checked(table, channel, proposal), rows)
+}
+
+/// The clean arrangements: new channel, id moved and its new channel of each.
+pub fn arrange(
+    table: &[u8],
+    first: u32,
+    last: u32,
+    proposal: &Proposal,
+    rows: &mut [u32],
+) -> Answer {
+    delivered(arranged(table, first, last, proposal), rows)
+}
+
+/// Any question; an image goes to `image`, a list to `rows`.
+pub fn ask(question: &Question, table: &[u8], image: &mut [u8], rows: &mut [u32]) -> Answer {
+    match question {
+        Question::Read => read(table),
+        &Question::Distance {
+            lat1,
+            lon1,
+            lat2,
+            lon2,
+        } => distance(lat1, lon1, lat2, lon2),
+        Question::Add {
+            id,
+            channel,
+            proposal,
+        } => add(table, *id, *channel, proposal, image),
+        Question::Withdraw { id } => withdraw(table, *id, image),
+        Question::Move { id, channel } => move_to(table, *id, *channel, image),
+        Question::Check { channel, proposal } => check(table, *channel, proposal, rows),
+        Question::Arrange {
+            first,
+            last,
+            proposal,
+        } => arrange(table, *first, *last, proposal, rows),
+    }
+}

@@ -1,0 +1,305 @@
+//! The proved library and the tuned desk held against the naive one: answers and whole buffers, on made tables.
+
+mod common;
+
+use common::{agree, agree_in, ROWS};
+use fms_bench::made::{
+    damaged, proposal_in, region, region_proposals, scene, Area, Chance, Scene, DAMAGES, MANNERS,
+};
+use fms_bench::question::{Answer, Proposal, Question};
+
+/// A proposal near the stations; in one case of eight a wrong one.
+fn proposal(chance: &mut Chance, scene: &Scene) -> Proposal {
+    let mut proposal = proposal_in(chance, scene.area);
+    if chance.once_in(8) {
+        match chance.from(0, 3) {
+            0 => proposal.station_class = chance.from(0, 9) as u32,
+            1 => proposal.zone = chance.from(0, 4) as u32,
+            2 => proposal.lat = chance.one_of(&[-270_001, -270_000, 270_000, 270_001]),
+            _ => proposal.lon = chance.one_of(&[-648_001, -648_000, 648_000, 648_001]),
+        }
+    }
+    proposal
+}
+
+/// A channel, most often one that may be asked for.
+fn channel(chance: &mut Chance) -> u32 {
+    if chance.once_in(12) {
+        chance.one_of(&[0, 201, 220, 301, 65_786])
+    } else {
+        chance.from(221, 300) as u32
+    }
+}
+
+/// An id of the table, or another one.
+fn id(chance: &mut Chance, scene: &Scene) -> u32 {
+    if scene.stations.is_empty() || chance.once_in(4) {
+        chance.from(0, 5_000) as u32
+    } else {
+        chance.one_of(&scene.stations).id
+    }
+}
+
+/// The seven questions about one scene.
+fn questions(chance: &mut Chance, scene: &Scene) -> Vec<Question> {
+    let (first, last) = match chance.from(0, 5) {
+        0 => (221, 300),
+        1 => (channel(chance), channel(chance)),
+        2 => {
+            let first = chance.from(221, 300);
+            (first as u32, chance.from(first, 300) as u32)
+        }
+        _ => {
+            let one = channel(chance);
+            (one, one)
+        }
+    };
+    let new = proposal(chance, scene);
+    let other = proposal(chance, scene);
+    let absent = chance.from(0, 10_000) as u32;
+    vec![
+        Question::Read,
+        Question::Distance {
+            lat1: new.lat,
+            lon1: new.lon,
+            lat2: other.lat,
+            lon2: other.lon,
+        },
+        Question::Add {
+            id: absent,
+            channel: channel(chance),
+            proposal: new,
+        },
+        Question::Add {
+            id: id(chance, scene),
+            channel: channel(chance),
+            proposal: new,
+        },
+        Question::Withdraw {
+            id: id(chance, scene),
+        },
+        Question::Move {
+            id: id(chance, scene),
+            channel: channel(chance),
+        },
+        Question::Move {
+            id: id(chance, scene),
+            channel: channel(chance),
+        },
+        Question::Check {
+            channel: channel(chance),
+            proposal: new,
+        },
+        Question::Arrange {
+            first,
+            last,
+            proposal: new,
+        },
+    ]
+}
+
+/// Short tables of every manner.
+#[test]
+fn many_short_tables() {
+    let mut chance = Chance::new(11);
+    let mut refusals = [0; 26];
+    for turn in 0..12_000 {
+        let manner = MANNERS[turn % MANNERS.len()];
+        let most = chance.one_of(&[0, 1, 2, 5, 12, 30]);
+        let scene = scene(&mut chance, manner, most);
+        let table = scene.table();
+        for question in questions(&mut chance, &scene) {
+            if let Answer::Refused { number, .. } = agree(&question, &table).answer {
+                refusals[number as usize] += 1;
+            }
+        }
+    }
+    for number in [13, 14, 15, 16, 17, 18, 19, 20, 23, 24, 25] {
+        assert!(refusals[number] > 0, "no refusal {number} was met");
+    }
+}
+
+/// Longer tables of every manner, with all questions but Arrange over wide ranges.
+#[test]
+fn longer_tables() {
+    let mut chance = Chance::new(12);
+    for turn in 0..300 {
+        let manner = MANNERS[turn % MANNERS.len()];
+        let scene = scene(&mut chance, manner, 2_000);
+        let table = scene.table();
+        for question in questions(&mut chance, &scene) {
+            let question = match question {
+                Question::Arrange {
+                    first, proposal, ..
+                } => Question::Arrange {
+                    first,
+                    last: first,
+                    proposal,
+                },
+                other => other,
+            };
+            agree_in(&question, &table, table.len() + 16, ROWS);
+        }
+    }
+}
+
+/// Damaged tables: every question gives the refusal of the table.
+#[test]
+fn damaged_tables() {
+    let mut chance = Chance::new(13);
+    for number in DAMAGES {
+        let mut met = 0;
+        for turn in 0..400 {
+            let manner = MANNERS[turn % MANNERS.len()];
+            let scene = scene(&mut chance, manner, 40);
+            let table = damaged(&mut chance, &scene.table(), number);
+            for question in questions(&mut chance, &scene) {
+                if let Answer::Refused { number: found, .. } = agree(&question, &table).answer {
+                    met += usize::from(found == number);
+                }
+            }
+        }
+        assert!(met > 100, "refusal {number} was met {met} times");
+    }
+}
+
+/// Tables damaged in two ways at once: the first in the paper's order is given.
+#[test]
+fn twice_damaged_tables() {
+    let mut chance = Chance::new(14);
+    for turn in 0..4_000 {
+        let scene = scene(&mut chance, MANNERS[turn % MANNERS.len()], 10);
+        let mut table = scene.table();
+        for _ in 0..2 {
+            let number = chance.from(2, 12) as u32;
+            table = damaged(&mut chance, &table, number);
+        }
+        agree(&Question::Read, &table);
+        agree(
+            &Question::Withdraw {
+                id: id(&mut chance, &scene),
+            },
+            &table,
+        );
+    }
+}
+
+/// A table of a region with 2,000 stations: Check on every channel, Arrange over the whole range.
+#[test]
+fn a_region_of_2000() {
+    let table = region(1, 2_000);
+    for proposal in region_proposals(2, 6) {
+        for channel in 221..=300 {
+            agree_in(&Question::Check { channel, proposal }, &table, 0, ROWS);
+        }
+        agree_in(
+            &Question::Arrange {
+                first: 221,
+                last: 300,
+                proposal,
+            },
+            &table,
+            0,
+            ROWS,
+        );
+    }
+}
+
+/// One question for the whole range gives the rows of the 80 questions for one channel each.
+#[test]
+fn one_channel_at_a_time() {
+    let mut chance = Chance::new(15);
+    for turn in 0..60 {
+        let scene = scene(&mut chance, MANNERS[turn % MANNERS.len()], 60);
+        let table = scene.table();
+        let proposal = proposal_in(&mut chance, scene.area);
+        let whole = agree(
+            &Question::Arrange {
+                first: 221,
+                last: 300,
+                proposal,
+            },
+            &table,
+        );
+        let mut rows = Vec::new();
+        for channel in 221..=300 {
+            rows.extend(
+                agree(
+                    &Question::Arrange {
+                        first: channel,
+                        last: channel,
+                        proposal,
+                    },
+                    &table,
+                )
+                .list(),
+            );
+        }
+        assert_eq!(whole.list(), rows);
+    }
+}
+
+/// A desk's year: each granted image is the next table, and goes on to be accepted.
+#[test]
+fn changes_in_a_row() {
+    let mut chance = Chance::new(16);
+    for _ in 0..40 {
+        let mut table = fms_bench::naive::image_of(&[]);
+        let area = Area::around(
+            chance.from(-250_000, 250_000),
+            chance.from(-600_000, 600_000),
+            9_000,
+        );
+        for _ in 0..200 {
+            let id = chance.from(1, 60) as u32;
+            let channel = chance.from(221, 300) as u32;
+            let question = match chance.from(0, 5) {
+                0 => Question::Withdraw { id },
+                1 => Question::Move { id, channel },
+                _ => Question::Add {
+                    id,
+                    channel,
+                    proposal: proposal_in(&mut chance, area),
+                },
+            };
+            let outcome = agree(&question, &table);
+            if let Answer::Granted(_) = outcome.answer {
+                table = outcome.image().to_vec();
+                assert!(matches!(
+                    agree(&Question::Read, &table).answer,
+                    Answer::Granted(_)
+                ));
+            }
+        }
+        assert!(table.len() > 8);
+    }
+}
+
+/// Distances between any two sites, near ones and far ones.
+#[test]
+fn distances() {
+    let mut chance = Chance::new(17);
+    for turn in 0..200_000 {
+        let lat1 = chance.from(-270_000, 270_000) as i32;
+        let lon1 = chance.from(-648_000, 648_000) as i32;
+        let reach = chance.one_of(&[1, 100, 4_000, 16_000, 60_000]);
+        let lat2 = (lat1 + chance.from(-reach, reach) as i32).clamp(-270_001, 270_001);
+        let lon2 = (lon1 + chance.from(-reach, reach) as i32).clamp(-648_001, 648_001);
+        let question = Question::Distance {
+            lat1,
+            lon1,
+            lat2,
+            lon2,
+        };
+        let answer = agree_in(&question, &[], 0, 0).answer;
+        if turn % 16 == 0 {
+            let back = Question::Distance {
+                lat1: lat2,
+                lon1: lon2,
+                lat2: lat1,
+                lon2: lon1,
+            };
+            assert_eq!(agree_in(&back, &[], 0, 0).answer, answer);
+        }
+    }
+}

@@ -1,0 +1,193 @@
+//! Questions asked with lent buffers of a chosen room, and everything that came of them.
+#![allow(dead_code)]
+
+use fms_bench::naive::{image_of, Station};
+use fms_bench::question::{Answer, Proposal, Question};
+use fms_bench::{fms, naive, tuned};
+
+/// What stands in a buffer before it is lent.
+const BYTE: u8 = 0xA5;
+const NUMBER: u32 = 0xDEAD_BEEF;
+
+/// Places behind the lent part of a buffer.
+const BEYOND: usize = 5;
+
+/// The longest image and the longest list.
+pub const IMAGE: usize = 8 + 16 * 2_000;
+pub const ROWS: usize = 3 * 80 * 79;
+
+/// The answer, and both buffers with what lies beyond their lent parts.
+#[derive(Clone, Debug, PartialEq, Eq)]
+pub struct Outcome {
+    pub answer: Answer,
+    image: Vec<u8>,
+    rows: Vec<u32>,
+}
+
+impl Outcome {
+    /// Nothing was written, in the lent part or beyond.
+    pub fn untouched(&self) -> bool {
+        self.image.iter().all(|&byte| byte == BYTE)
+            && self.rows.iter().all(|&number| number == NUMBER)
+    }
+
+    /// The list that was granted.
+    pub fn list(&self) -> &[u32] {
+        let Answer::Granted(count) = self.answer else {
+            panic!("refused: {:?}", self.answer)
+        };
+        &self.rows[..count as usize]
+    }
+
+    /// The image that was granted.
+    pub fn image(&self) -> &[u8] {
+        let Answer::Granted(count) = self.answer else {
+            panic!("refused: {:?}", self.answer)
+        };
+        &self.image[..count as usize]
+    }
+}
+
+type Ask = fn(&Question, &[u8], &mut [u8], &mut [u32]) -> Answer;
+
+fn outcome(
+    ask: Ask,
+    question: &Question,
+    table: &[u8],
+    image_room: usize,
+    rows_room: usize,
+) -> Outcome {
+    let mut image = vec![BYTE; image_room + BEYOND];
+    let mut rows = vec![NUMBER; rows_room + BEYOND];
+    let answer = ask(
+        question,
+        table,
+        &mut image[..image_room],
+        &mut rows[..rows_room],
+    );
+    Outcome {
+        answer,
+        image,
+        rows,
+    }
+}
+
+/// What the proved library makes of a question; the lent table stays as it was.
+pub fn product(question: &Question, table: &[u8], image_room: usize, rows_room: usize) -> Outcome {
+    let lent = table.to_vec();
+    let outcome = outcome(
+        fms::ask,
+        question,
+        std::hint::black_box(&lent),
+        image_room,
+        rows_room,
+    );
+    assert_eq!(
+        std::hint::black_box(&lent),
+        table,
+        "the table was changed by {question:?}"
+    );
+    outcome
+}
+
+/// What the naive desk makes of it.
+pub fn reference(
+    question: &Question,
+    table: &[u8],
+    image_room: usize,
+    rows_room: usize,
+) -> Outcome {
+    outcome(naive::ask, question, table, image_room, rows_room)
+}
+
+/// What the tuned desk makes of it, where it is one of its questions.
+pub fn yardstick(question: &Question, table: &[u8], rows_room: usize) -> Option<Outcome> {
+    let ask: Ask =
+        |question, table, _, rows| tuned::ask(question, table, rows).expect("a tuned question");
+    match question {
+        Question::Read | Question::Check { .. } | Question::Arrange { .. } => {
+            Some(outcome(ask, question, table, 0, rows_room))
+        }
+        _ => None,
+    }
+}
+
+/// Holds the library and the tuned desk against the naive one, with so much room.
+pub fn agree_in(question: &Question, table: &[u8], image_room: usize, rows_room: usize) -> Outcome {
+    let expected = reference(question, table, image_room, rows_room);
+    let found = product(question, table, image_room, rows_room);
+    assert!(
+        found == expected,
+        "{question:?} with room for {image_room} bytes and {rows_room} numbers\n\
+         on {table:?}\nproduct {:?}\nnaive   {:?}",
+        found.answer,
+        expected.answer
+    );
+    if let Some(found) = yardstick(question, table, rows_room) {
+        assert!(
+            found.answer == expected.answer && found.rows == expected.rows,
+            "{question:?} with room for {rows_room} numbers\non {table:?}\ntuned {:?}\nnaive {:?}",
+            found.answer,
+            expected.answer
+        );
+    }
+    expected
+}
+
+/// The same with ample room, with exactly the room that is needed, with more, and with one place less and none.
+pub fn agree(question: &Question, table: &[u8]) -> Outcome {
+    let ample = agree_in(question, table, table.len() + 40, ROWS);
+    if let Answer::Granted(count) = ample.answer {
+        let need = count as usize;
+        for room in [need, need + 1, need.saturating_sub(1), 0] {
+            let tight = agree_in(question, table, room, room);
+            let written = !matches!(question, Question::Read | Question::Distance { .. });
+            if written && room < need {
+                assert_eq!(
+                    tight.answer,
+                    Answer::Refused {
+                        number: 22,
+                        extra: count
+                    }
+                );
+                assert!(tight.untouched());
+            } else {
+                assert_eq!(tight.answer, ample.answer);
+            }
+        }
+    } else {
+        assert!(ample.untouched());
+    }
+    ample
+}
+
+/// A proposal in zone 3 of class A at a site.
+pub fn class_a(lat: i32, lon: i32) -> Proposal {
+    Proposal {
+        station_class: 0,
+        zone: 3,
+        lat,
+        lon,
+    }
+}
+
+/// A zone that permits a class.
+pub fn zone_for(station_class: u32) -> u32 {
+    if (1..=2).contains(&station_class) {
+        1
+    } else {
+        3
+    }
+}
+
+/// A table of one movable station with the id 7.
+pub fn table_of_one(channel: u32, class: u32, lat: i32, lon: i32) -> Vec<u8> {
+    image_of(&[Station {
+        id: 7,
+        channel,
+        class,
+        flags: 0,
+        lat,
+        lon,
+    }])
+}

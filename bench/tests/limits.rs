@@ -1,0 +1,371 @@
+//! Sites at which a separation is just kept and just missed, and those at which one unit of P or Q decides.
+
+mod common;
+
+use common::{agree_in, table_of_one, zone_for};
+use fms_bench::naive::{cosines, degrees, km, rounded, squared};
+use fms_bench::question::{Answer, Proposal, Question};
+use std::collections::BTreeMap;
+
+const E: i128 = 1_000_000_000;
+
+/// The greatest mean latitude, in half-seconds.
+const HIGHEST: i64 = 540_000;
+
+/// A channel difference for each column, and the other one where there are two.
+const DIFFERENCES: [(usize, u32); 6] = [(0, 0), (1, 1), (2, 2), (2, 3), (3, 53), (3, 54)];
+
+/// For each separation that Table A has, one pair of classes and one column that has it.
+fn separations() -> BTreeMap<u32, (u32, u32, usize)> {
+    let mut found = BTreeMap::new();
+    for a in 0..8 {
+        for b in 0..8 {
+            for column in 0..4 {
+                found.insert(km(a, b, column), (a, b, column));
+            }
+        }
+    }
+    found
+}
+
+/// Two sites.
+#[derive(Clone, Copy, Debug)]
+struct Sites {
+    lat1: i32,
+    lon1: i32,
+    lat2: i32,
+    lon2: i32,
+}
+
+impl Sites {
+    /// Two sites of a mean latitude of h half-seconds and given differences of latitude and longitude, where they are in range.
+    fn at(h: i64, dlat: i64, dlon: i64) -> Option<Sites> {
+        if (h + dlat) % 2 != 0 || (h + dlat) / 2 > 270_000 {
+            return None;
+        }
+        let west = dlon / 2;
+        Some(Sites {
+            lat1: ((h + dlat) / 2) as i32,
+            lon1: -west as i32,
+            lat2: ((h - dlat) / 2) as i32,
+            lon2: (dlon - west) as i32,
+        })
+    }
+
+    fn kilometres(&self) -> u32 {
+        rounded(squared(self.lat1, self.lon1, self.lat2, self.lon2))
+    }
+
+    /// The same sites south of the equator.
+    fn south(&self) -> Sites {
+        Sites {
+            lat1: -self.lat1,
+            lat2: -self.lat2,
+            ..*self
+        }
+    }
+
+    /// Holds Check for two classes, and the distance, against the naive desk, from either site; answers whether they are short.
+    fn held(&self, a: u32, b: u32, difference: u32) -> bool {
+        let mut verdicts = Vec::new();
+        for (station_class, class, station, asked) in [
+            (a, b, 240, 240 + difference),
+            (b, a, 240 + difference, 240),
+            (a, b, 240 + difference, 240),
+        ] {
+            let table = table_of_one(station, class, self.lat1, self.lon1);
+            let zone = zone_for(station_class);
+            let proposal = Proposal {
+                station_class,
+                zone,
+                lat: self.lat2,
+                lon: self.lon2,
+            };
+            let found = agree_in(
+                &Question::Check {
+                    channel: asked,
+                    proposal,
+                },
+                &table,
+                0,
+                3,
+            );
+            verdicts.push(!found.list().is_empty());
+        }
+        assert!(verdicts.iter().all(|&verdict| verdict == verdicts[0]));
+        let Sites {
+            lat1,
+            lon1,
+            lat2,
+            lon2,
+        } = *self;
+        agree_in(
+            &Question::Distance {
+                lat1,
+                lon1,
+                lat2,
+                lon2,
+            },
+            &[],
+            0,
+            0,
+        );
+        agree_in(
+            &Question::Distance {
+                lat1: lat2,
+                lon1: lon2,
+                lat2: lat1,
+                lon2: lon1,
+            },
+            &[],
+            0,
+            0,
+        );
+        verdicts[0]
+    }
+}
+
+/// The least difference of longitude at which D is at least r.
+fn crossing_east(h: i64, dlat: i64, r: u32) -> Option<i64> {
+    let far = |dlon| Sites::at(h, dlat, dlon).map(|sites| sites.kilometres() >= r);
+    if far(0)? {
+        return None;
+    }
+    let (mut near, mut apart) = (0, 1_296_000);
+    while apart - near > 1 {
+        let middle = (near + apart) / 2;
+        if far(middle)? {
+            apart = middle;
+        } else {
+            near = middle;
+        }
+    }
+    Some(apart)
+}
+
+/// The least difference of latitude, of the parity of h, at which D is at least r.
+fn crossing_north(h: i64, r: u32) -> Option<i64> {
+    let (mut near, mut apart) = (-1, 10_000);
+    while apart - near > 1 {
+        let middle = (near + apart) / 2;
+        if Sites::at(h, 2 * middle + h % 2, 0)?.kilometres() >= r {
+            apart = middle;
+        } else {
+            near = middle;
+        }
+    }
+    Some(2 * apart + h % 2)
+}
+
+/// Every pair of classes and every difference, east and north, on both sides of the line, at many latitudes.
+#[test]
+fn every_pair_of_classes() {
+    let mut lines = 0;
+    for h in (0..HIGHEST)
+        .step_by(22_501)
+        .chain([1, 2, 216_001, 324_000, 519_999, 520_000, 540_000])
+    {
+        for a in 0..8 {
+            for b in a..8 {
+                for (column, difference) in DIFFERENCES {
+                    let r = km(a, b, column);
+                    for dlat in [h % 2, 200 + h % 2] {
+                        if let Some(dlon) = crossing_east(h, dlat, r) {
+                            for (dlon, short) in [(dlon - 1, true), (dlon, false)] {
+                                let sites = Sites::at(h, dlat, dlon).expect("both in range");
+                                assert_eq!(sites.held(a, b, difference), short);
+                                assert_eq!(sites.south().held(a, b, difference), short);
+                                lines += 1;
+                            }
+                        }
+                    }
+                    if let Some(dlat) = crossing_north(h, r) {
+                        for (dlat, short) in [(dlat - 2, true), (dlat, false)] {
+                            let sites = Sites::at(h, dlat, 0).expect("both in range");
+                            assert_eq!(sites.held(a, b, difference), short);
+                            lines += 1;
+                        }
+                    }
+                }
+            }
+        }
+    }
+    assert!(lines > 20_000, "{lines} lines");
+}
+
+/// S exactly at the square of the limit is spaced, and D is R.
+#[test]
+fn exactly_at_the_limit() {
+    let mut met = 0;
+    for (&r, &(a, b, column)) in &separations() {
+        let limit = 10_000 * i64::from(r) - 5_000;
+        let exact = (0..HIGHEST).step_by(2).filter_map(|h| {
+            let (_, q) = degrees(i128::from(h));
+            let dlon = (limit * 3_600_000 + q as i64 - 1) / q as i64;
+            (dlon * q as i64 / 3_600_000 == limit)
+                .then(|| Sites::at(h, 0, dlon))
+                .flatten()
+        });
+        for sites in exact.take(3) {
+            let (_, difference) = DIFFERENCES[[0, 1, 2, 4][column]];
+            assert_eq!(sites.kilometres(), r);
+            assert!(!sites.held(a, b, difference));
+            met += 1;
+        }
+    }
+    assert!(met > 100, "{met} sites");
+}
+
+/// One more or one less in Q, or in P, moves the line between two neighbouring sites: all such lines of Table A along a parallel
+/// or a meridian.
+#[test]
+fn where_one_unit_decides() {
+    let separations = separations();
+    let mut by_q = 0;
+    let mut by_p = 0;
+    for h in 0..=HIGHEST {
+        let (p, q) = degrees(i128::from(h));
+        let (p, q) = (p as i64, q as i64);
+        for (&r, &(a, b, column)) in &separations {
+            let (_, difference) = DIFFERENCES[[0, 1, 2, 4][column]];
+            let need = (10_000 * i64::from(r) - 5_000) * 3_600_000;
+            // The least n with n × scale at least need, unless a scale of one more or one less gives the same.
+            let decided = |scale: i64| {
+                let n = (need + scale - 1) / scale;
+                (n * (scale - 1) < need || (n - 1) * (scale + 1) >= need).then_some(n)
+            };
+            if h % 2 == 0 {
+                if let Some(dlon) = decided(q) {
+                    for (dlon, short) in [(dlon - 1, true), (dlon, false)] {
+                        let sites = Sites::at(h, 0, dlon).expect("both in range");
+                        assert_eq!(sites.held(a, b, difference), short, "{sites:?}");
+                    }
+                    by_q += 1;
+                }
+            }
+            if let Some(dlat) = decided(p).filter(|dlat| (dlat + h) % 2 == 0) {
+                if let Some(sites) = Sites::at(h, dlat, 0) {
+                    assert!(!sites.held(a, b, difference), "{sites:?}");
+                    by_p += 1;
+                }
+            }
+            if let Some(dlat) = decided(p).filter(|dlat| (dlat + h) % 2 != 0) {
+                if let Some(sites) = Sites::at(h, dlat - 1, 0) {
+                    assert!(sites.held(a, b, difference), "{sites:?}");
+                    by_p += 1;
+                }
+            }
+        }
+    }
+    assert!(by_q > 50 && by_p > 50, "{by_q} by Q, {by_p} by P");
+}
+
+/// The quotient cut toward minus infinity.
+fn floored(a: i128, b: i128) -> i128 {
+    a.div_euclid(b)
+}
+
+/// Q with the quotients in c3 and c5 cut by one rule each.
+fn q_cut(h: i64, third: fn(i128, i128) -> i128, fifth: fn(i128, i128) -> i128) -> i128 {
+    let [_, c1, c2, _, c4, _] = cosines(i128::from(h));
+    let c3 = 2 * third(c1 * c2, E) - c1;
+    let c5 = 2 * fifth(c1 * c4, E) - c3;
+    1_114_151_300 * c1 / E - 945_500 * c3 / E + 1_200 * c5 / E
+}
+
+/// The mean latitudes at which cutting c3 or c5 toward minus infinity would change Q: at each, a pair that would show it in D.
+#[test]
+fn where_flooring_would_show() {
+    let toward_zero: fn(i128, i128) -> i128 = |a, b| a / b;
+    let separations = separations();
+    let mut latitudes = 0;
+    let mut shown = 0;
+    for h in 0..=HIGHEST {
+        let q = q_cut(h, toward_zero, toward_zero);
+        for other in [
+            q_cut(h, floored, toward_zero),
+            q_cut(h, toward_zero, floored),
+        ] {
+            if q == other {
+                continue;
+            }
+            latitudes += 1;
+            if let Some((r, near, far)) =
+                shows(h, q as i64, other as i64, separations.keys().copied())
+            {
+                let (a, b, column) = separations[&r];
+                let (_, difference) = DIFFERENCES[[0, 1, 2, 4][column]];
+                assert!(near.held(a, b, difference), "{near:?}");
+                assert!(!far.held(a, b, difference), "{far:?}");
+                shown += 1;
+            }
+        }
+    }
+    assert_eq!(latitudes, 461 + 6);
+    assert!(shown > 400, "{shown} shown");
+}
+
+/// A separation and two pairs of sites, neighbours in longitude, one short and one not, of which Q and another Q judge one
+/// differently.
+fn shows(
+    h: i64,
+    q: i64,
+    other: i64,
+    separations: impl Iterator<Item = u32> + Clone,
+) -> Option<(u32, Sites, Sites)> {
+    let (p, _) = degrees(i128::from(h));
+    for dlat in (h % 2..4_000).step_by(2) {
+        let ns = dlat * p as i64 / 3_600_000;
+        for r in separations.clone() {
+            let limit = 10_000 * i64::from(r) - 5_000;
+            if ns >= limit {
+                continue;
+            }
+            let rest = limit * limit - ns * ns;
+            let root = rest.isqrt();
+            let ew = if root * root == rest { root } else { root + 1 };
+            let least = |scale: i64| (ew * 3_600_000 + scale - 1) / scale;
+            if least(q) != least(other) {
+                let near = Sites::at(h, dlat, least(q) - 1)?;
+                return Some((r, near, Sites::at(h, dlat, least(q))?));
+            }
+        }
+    }
+    None
+}
+
+/// The line of the distance question: 475 is answered, 476 is refused with 24, at many latitudes.
+#[test]
+fn the_line_of_475() {
+    for h in (0..=HIGHEST).step_by(3_001) {
+        let dlon = crossing_east(h, h % 2, 476).expect("in range");
+        for (dlon, answer) in [
+            (dlon - 1, Answer::Granted(475)),
+            (
+                dlon,
+                Answer::Refused {
+                    number: 24,
+                    extra: 0,
+                },
+            ),
+        ] {
+            for Sites {
+                lat1,
+                lon1,
+                lat2,
+                lon2,
+            } in Sites::at(h, h % 2, dlon)
+                .iter()
+                .flat_map(|s| [*s, s.south()])
+            {
+                let question = Question::Distance {
+                    lat1,
+                    lon1,
+                    lat2,
+                    lon2,
+                };
+                assert_eq!(agree_in(&question, &[], 0, 0).answer, answer);
+            }
+        }
+    }
+}

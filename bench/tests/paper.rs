@@ -1,0 +1,181 @@
+//! The cases of the paper, through the proved library.
+
+mod common;
+
+use common::{agree, class_a, table_of_one};
+use fms_bench::naive::{image_of, short, squared, Station};
+use fms_bench::question::{Answer, Proposal, Question};
+
+const A: u32 = 0;
+const C: u32 = 7;
+
+/// Whether two stations of one class are short, asked of Check from either end.
+fn is_short(class: u32, difference: u32, first: (i32, i32), second: (i32, i32)) -> bool {
+    let mut verdicts = Vec::new();
+    for (there, here) in [(first, second), (second, first)] {
+        for (station, asked) in [(221, 221 + difference), (221 + difference, 221)] {
+            let table = table_of_one(station, class, there.0, there.1);
+            let proposal = Proposal {
+                station_class: class,
+                zone: 3,
+                lat: here.0,
+                lon: here.1,
+            };
+            let question = Question::Check {
+                channel: asked,
+                proposal,
+            };
+            verdicts.push(!agree(&question, &table).list().is_empty());
+        }
+    }
+    assert!(
+        verdicts.iter().all(|&verdict| verdict == verdicts[0]),
+        "the order of the pair matters"
+    );
+    verdicts[0]
+}
+
+#[test]
+fn p1_to_p10() {
+    assert!(is_short(A, 0, (0, 0), (0, 3_702)));
+    assert!(!is_short(A, 0, (0, 0), (0, 3_703)));
+    assert!(is_short(A, 2, (0, 0), (0, 986)));
+    assert!(!is_short(A, 2, (0, 0), (0, 987)));
+    assert!(is_short(A, 53, (0, 0), (0, 307)));
+    assert!(!is_short(A, 53, (0, 0), (0, 308)));
+    assert!(is_short(C, 0, (4_712, 0), (-4_712, 0)));
+    assert!(!is_short(C, 0, (4_713, 0), (-4_713, 0)));
+    assert!(!is_short(A, 4, (0, 0), (0, 0)));
+    assert!(!is_short(A, 52, (0, 0), (0, 0)));
+}
+
+/// Two stations on 220 at one site never meet in a question: the table is read, a proposal on 220 is refused.
+#[test]
+fn p11() {
+    let station = Station {
+        id: 7,
+        channel: 220,
+        class: A,
+        flags: 0,
+        lat: 0,
+        lon: 0,
+    };
+    assert!(!short(&station, &station));
+    let table = image_of(&[station, Station { id: 8, ..station }]);
+    assert_eq!(agree(&Question::Read, &table).answer, Answer::Granted(2));
+    let question = Question::Check {
+        channel: 220,
+        proposal: class_a(0, 0),
+    };
+    assert_eq!(
+        agree(&question, &table).answer,
+        Answer::Refused {
+            number: 13,
+            extra: 0
+        }
+    );
+    let question = Question::Check {
+        channel: 221,
+        proposal: class_a(0, 0),
+    };
+    assert_eq!(agree(&question, &table).list(), [7, 0, 72, 8, 0, 72]);
+}
+
+#[test]
+fn p12() {
+    let question = Question::Distance {
+        lat1: 0,
+        lon1: 0,
+        lat2: 0,
+        lon2: 3_600,
+    };
+    assert_eq!(agree(&question, &[]).answer, Answer::Granted(111));
+}
+
+/// Lines held up to each other: at (0, 3702) EW is 1,144,747; at (0, 3703) it is 1,145,057.
+#[test]
+fn decimetres_of_p1_and_p2() {
+    assert_eq!(squared(0, 0, 0, 3_702), 1_144_747 * 1_144_747);
+    assert_eq!(squared(0, 0, 0, 3_703), 1_145_057 * 1_145_057);
+}
+
+/// Differences 0 to 79 at one site: short at 0, 1, 2, 3, 53 and 54 alone.
+#[test]
+fn differences() {
+    for difference in 0..=79 {
+        let expected = matches!(difference, 0..=3 | 53 | 54);
+        assert_eq!(
+            is_short(A, difference, (0, 0), (0, 0)),
+            expected,
+            "difference {difference}"
+        );
+    }
+}
+
+#[test]
+fn whole_output() {
+    let table = table_of_one(250, A, 0, 0);
+    let question = Question::Check {
+        channel: 250,
+        proposal: class_a(0, 3_702),
+    };
+    assert_eq!(agree(&question, &table).list(), [7, 114, 115]);
+}
+
+/// The rows of Arrange over the whole range for class A at (0, 0) in zone 3.
+fn arrangements(table: &[u8]) -> Vec<[u32; 3]> {
+    let question = Question::Arrange {
+        first: 221,
+        last: 300,
+        proposal: class_a(0, 0),
+    };
+    agree(&question, table)
+        .list()
+        .chunks(3)
+        .map(|row| [row[0], row[1], row[2]])
+        .collect()
+}
+
+#[test]
+fn arrange_on_an_empty_table() {
+    let rows = arrangements(&image_of(&[]));
+    assert_eq!(
+        rows,
+        (221..=300)
+            .map(|channel| [channel, 0, 0])
+            .collect::<Vec<_>>()
+    );
+}
+
+#[test]
+fn arrange_beside_a_movable_station() {
+    let rows = arrangements(&table_of_one(260, A, 0, 0));
+    assert_eq!(rows.len(), 584);
+    assert_eq!(rows.iter().filter(|row| row[1] == 0).count(), 73);
+    for channel in 257..=263 {
+        assert_eq!(
+            rows.iter()
+                .filter(|row| row[0] == channel && row[1] == 7)
+                .count(),
+            73
+        );
+    }
+    assert_eq!(rows.iter().find(|row| row[1] != 0), Some(&[257, 7, 221]));
+}
+
+#[test]
+fn arrange_beside_a_fixed_station() {
+    let table = image_of(&[Station {
+        id: 7,
+        channel: 260,
+        class: A,
+        flags: 1,
+        lat: 0,
+        lon: 0,
+    }]);
+    let rows = arrangements(&table);
+    assert_eq!(rows.len(), 73);
+    assert!(rows
+        .iter()
+        .all(|row| row[1] == 0 && row[2] == 0 && !(257..=263).contains(&row[0])));
+}

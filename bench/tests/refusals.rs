@@ -1,0 +1,1193 @@
+//! Every refusal, through each function that can give it, with the neighbours of its order.
+
+mod common;
+
+use common::{agree_in, class_a, product, table_of_one, IMAGE, ROWS};
+use fms_bench::naive::{image_of, Station};
+use fms_bench::question::{Answer, Proposal, Question};
+
+/// The question is refused with this, whatever the room; nothing is written.
+fn refused(question: &Question, table: &[u8], number: u32, extra: u32) {
+    for (image_room, rows_room) in [(IMAGE, ROWS), (16, 3), (0, 0)] {
+        let outcome = agree_in(question, table, image_room, rows_room);
+        assert_eq!(
+            outcome.answer,
+            Answer::Refused { number, extra },
+            "{question:?}"
+        );
+        let outcome = product(question, table, image_room, rows_room);
+        assert_eq!(
+            outcome.answer,
+            Answer::Refused { number, extra },
+            "{question:?}"
+        );
+        assert!(outcome.untouched(), "{question:?} wrote");
+    }
+}
+
+/// The question is granted this count, and refused with 22 and the count when it has one place less, or none.
+fn granted(question: &Question, table: &[u8], count: u32) {
+    let room = count as usize;
+    for more in [0, 1, 40] {
+        let outcome = agree_in(question, table, room + more, room + more);
+        assert_eq!(outcome.answer, Answer::Granted(count), "{question:?}");
+    }
+    for less in [1, 2, room] {
+        if (1..=room).contains(&less) {
+            let outcome = agree_in(question, table, room - less, room - less);
+            assert_eq!(
+                outcome.answer,
+                Answer::Refused {
+                    number: 22,
+                    extra: count
+                },
+                "{question:?}"
+            );
+            assert!(
+                product(question, table, room - less, room - less).untouched(),
+                "{question:?} wrote"
+            );
+        }
+    }
+}
+
+/// A class A station on 250 at (0, 0), movable, to be changed where a case needs it.
+const STATION: Station = Station {
+    id: 7,
+    channel: 250,
+    class: 0,
+    flags: 0,
+    lat: 0,
+    lon: 0,
+};
+
+/// The questions on a table, right ones and ones with faults of their own.
+fn questions_on_a_table() -> Vec<Question> {
+    let right = class_a(100_000, 100_000);
+    let wrong = Proposal {
+        station_class: 8,
+        zone: 0,
+        lat: i32::MAX,
+        lon: i32::MIN,
+    };
+    let mut questions = vec![Question::Read];
+    for (channel, id, proposal) in [(230, 9, right), (0, 0, wrong)] {
+        questions.extend([
+            Question::Add {
+                id,
+                channel,
+                proposal,
+            },
+            Question::Withdraw { id },
+            Question::Move { id, channel },
+            Question::Check { channel, proposal },
+            Question::Arrange {
+                first: channel,
+                last: channel,
+                proposal,
+            },
+        ]);
+    }
+    questions
+}
+
+/// The table is refused with this by every question on a table, before anything of the question's own.
+fn table_refused(table: &[u8], number: u32, position: u32) {
+    for question in questions_on_a_table() {
+        refused(&question, table, number, position);
+    }
+}
+
+/// The header and two records, the second 16 bytes from the first.
+fn two() -> Vec<u8> {
+    image_of(&[
+        STATION,
+        Station {
+            id: 8,
+            channel: 240,
+            lat: 50_000,
+            ..STATION
+        },
+    ])
+}
+
+/// The table of two with bytes put into it.
+fn with(puts: &[(usize, &[u8])]) -> Vec<u8> {
+    let mut table = two();
+    for (at, bytes) in puts {
+        table[*at..at + bytes.len()].copy_from_slice(bytes);
+    }
+    table
+}
+
+#[test]
+fn a_right_table_is_read() {
+    assert_eq!(
+        agree_in(&Question::Read, &two(), 0, 0).answer,
+        Answer::Granted(2)
+    );
+    assert_eq!(
+        agree_in(&Question::Read, &image_of(&[]), 0, 0).answer,
+        Answer::Granted(0)
+    );
+}
+
+#[test]
+fn refusal_1() {
+    for length in 0..8 {
+        table_refused(&two()[..length], 1, 0);
+        table_refused(&[b'X'; 8][..length], 1, 0);
+    }
+}
+
+#[test]
+fn refusal_2() {
+    for at in 0..3 {
+        table_refused(&with(&[(at, b"X")]), 2, 0);
+        table_refused(&with(&[(at, b"f")]), 2, 0);
+    }
+    table_refused(&with(&[(0, b"FMT")]), 2, 0);
+    table_refused(&with(&[(0, b"XXX\0\x02")]), 2, 0);
+    table_refused(b"TVS\0\x01\0\0\0", 2, 0);
+}
+
+#[test]
+fn refusal_3() {
+    for version in [0u16, 2, 3, 256, 257, 65_535] {
+        table_refused(&with(&[(3, &version.to_be_bytes())]), 3, 0);
+        table_refused(&with(&[(3, &version.to_be_bytes()), (5, &[1])]), 3, 0);
+    }
+}
+
+#[test]
+fn refusal_4() {
+    for byte in [1u8, 2, 128, 255] {
+        table_refused(&with(&[(5, &[byte])]), 4, 0);
+        table_refused(&with(&[(5, &[byte]), (6, &2_001u16.to_be_bytes())]), 4, 0);
+    }
+}
+
+/// A count over 2,000 comes before the length, right or wrong.
+#[test]
+fn refusal_5() {
+    for count in [2_001u16, 2_002, 4_000, 65_535] {
+        table_refused(&with(&[(6, &count.to_be_bytes())]), 5, 0);
+        let mut whole = with(&[(6, &count.to_be_bytes())]);
+        whole.resize(8 + 16 * usize::from(count), 0);
+        table_refused(&whole, 5, 0);
+    }
+    let stations: Vec<Station> = (1..=2_001).map(|id| Station { id, ..STATION }).collect();
+    table_refused(&image_of(&stations), 5, 0);
+    let full = image_of(&stations[..2_000]);
+    assert_eq!(
+        agree_in(&Question::Read, &full, 0, 0).answer,
+        Answer::Granted(2_000)
+    );
+}
+
+/// A wrong length comes before any record.
+#[test]
+fn refusal_6() {
+    let table = two();
+    for length in [8, 9, 24, 39, 41, 56] {
+        let mut other = table.clone();
+        other.resize(length, 0);
+        table_refused(&other, 6, 0);
+    }
+    for count in [0u16, 1, 3, 512, 2_000] {
+        table_refused(&with(&[(6, &count.to_be_bytes())]), 6, 0);
+        table_refused(&with(&[(6, &count.to_be_bytes()), (8, &[0; 16])]), 6, 0);
+    }
+    let mut longer = image_of(&[]);
+    longer.push(0);
+    table_refused(&longer, 6, 0);
+}
+
+/// The field of a record at an offset, with values that are refused and values that are not.
+fn field(number: u32, offset: usize, bad: &[&[u8]], good: &[&[u8]], after: &[(usize, &[u8])]) {
+    for position in 0..2 {
+        let record = 8 + 16 * position;
+        for &value in bad {
+            table_refused(&with(&[(record + offset, value)]), number, position as u32);
+            // Faults in later fields of the record, and in the next record, do not show.
+            let mut faults = vec![(record + offset, value)];
+            faults.extend(after.iter().map(|&(at, bytes)| (record + at, bytes)));
+            if position == 0 {
+                faults.push((24, &[0, 0, 0, 0]));
+            }
+            table_refused(&with(&faults), number, position as u32);
+        }
+        for &value in good {
+            let table = with(&[(record + offset, value)]);
+            assert_eq!(
+                agree_in(&Question::Read, &table, 0, 0).answer,
+                Answer::Granted(2)
+            );
+        }
+    }
+}
+
+const FAR_SITE: (usize, &[u8]) = (8, &[0x7F, 0xFF, 0xFF, 0xFF, 0x80, 0, 0, 0]);
+
+#[test]
+fn refusal_7() {
+    let after = [(4, &[0u8, 0, 255, 255][..]), FAR_SITE];
+    field(7, 0, &[&[0; 4]], &[], &after);
+    for (first, second) in [
+        (7u32, 7u32),
+        (8, 7),
+        (7, 1),
+        (u32::MAX, u32::MAX),
+        (u32::MAX, 7),
+        (0x8000_0000, 0x7FFF_FFFF),
+    ] {
+        let table = with(&[(8, &first.to_be_bytes()), (24, &second.to_be_bytes())]);
+        table_refused(&table, 7, 1);
+    }
+    for (first, second) in [
+        (1u32, 2u32),
+        (0x7FFF_FFFF, 0x8000_0000),
+        (u32::MAX - 1, u32::MAX),
+    ] {
+        let table = with(&[(8, &first.to_be_bytes()), (24, &second.to_be_bytes())]);
+        assert_eq!(
+            agree_in(&Question::Read, &table, 0, 0).answer,
+            Answer::Granted(2)
+        );
+    }
+}
+
+#[test]
+fn refusal_8() {
+    let bad: [&[u8]; 7] = [
+        &[0, 0],
+        &[0, 200],
+        &[1, 45],
+        &[1, 200],
+        &[1, 201],
+        &[2, 0],
+        &[255, 255],
+    ];
+    field(
+        8,
+        4,
+        &bad,
+        &[&[0, 201], &[1, 44]],
+        &[(6, &[255, 255]), FAR_SITE],
+    );
+}
+
+#[test]
+fn refusal_9() {
+    field(
+        9,
+        6,
+        &[&[8], &[9], &[128], &[255]],
+        &[&[0], &[7]],
+        &[(7, &[255]), FAR_SITE],
+    );
+}
+
+#[test]
+fn refusal_10() {
+    field(
+        10,
+        7,
+        &[&[2], &[3], &[4], &[128], &[129], &[255]],
+        &[&[0], &[1]],
+        &[FAR_SITE],
+    );
+}
+
+#[test]
+fn refusal_11() {
+    let bad = [-270_001i32, 270_001, i32::MIN, i32::MAX].map(i32::to_be_bytes);
+    let good = [-270_000i32, -1, 0, 270_000].map(i32::to_be_bytes);
+    field(
+        11,
+        8,
+        &bad.each_ref().map(|b| &b[..]),
+        &good.each_ref().map(|b| &b[..]),
+        &[(12, &[0x80, 0, 0, 0])],
+    );
+}
+
+#[test]
+fn refusal_12() {
+    let bad = [-648_001i32, 648_001, i32::MIN, i32::MAX].map(i32::to_be_bytes);
+    let good = [-648_000i32, -1, 0, 648_000].map(i32::to_be_bytes);
+    field(
+        12,
+        12,
+        &bad.each_ref().map(|b| &b[..]),
+        &good.each_ref().map(|b| &b[..]),
+        &[],
+    );
+}
+
+/// A proposal that is refused with this by Check, Arrange and Add, on an empty table and on one of two.
+fn proposal_refused(channel: u32, proposal: Proposal, number: u32) {
+    for table in [image_of(&[]), two()] {
+        refused(&Question::Check { channel, proposal }, &table, number, 0);
+        refused(
+            &Question::Arrange {
+                first: channel,
+                last: channel,
+                proposal,
+            },
+            &table,
+            number,
+            0,
+        );
+        // Faults that come later in Add: id 0, an id that is present, a short station.
+        for id in [9, 0, 7] {
+            refused(
+                &Question::Add {
+                    id,
+                    channel,
+                    proposal,
+                },
+                &table,
+                number,
+                0,
+            );
+        }
+    }
+}
+
+#[test]
+fn refusal_13() {
+    let right = class_a(0, 0);
+    let wrong = Proposal {
+        station_class: 8,
+        zone: 0,
+        lat: i32::MAX,
+        lon: i32::MIN,
+    };
+    for channel in [0, 1, 201, 220, 301, 65_536 + 250, u32::MAX] {
+        proposal_refused(channel, right, 13);
+        proposal_refused(channel, wrong, 13);
+        // Absent, present, fixed and low stations alike.
+        let low = Station {
+            id: 9,
+            channel: 220,
+            ..STATION
+        };
+        let table = image_of(&[
+            STATION,
+            Station {
+                id: 8,
+                flags: 1,
+                ..STATION
+            },
+            low,
+        ]);
+        for id in [7, 8, 9, 10, 0] {
+            refused(&Question::Move { id, channel }, &table, 13, 0);
+        }
+    }
+    for (first, last) in [
+        (220, 300),
+        (221, 301),
+        (300, 221),
+        (251, 250),
+        (220, 220),
+        (301, 301),
+        (0, u32::MAX),
+        (301, 220),
+    ] {
+        for proposal in [right, wrong] {
+            refused(
+                &Question::Arrange {
+                    first,
+                    last,
+                    proposal,
+                },
+                &two(),
+                13,
+                0,
+            );
+        }
+    }
+    for (first, last) in [(221, 221), (300, 300), (221, 300)] {
+        let question = Question::Arrange {
+            first,
+            last,
+            proposal: right,
+        };
+        granted(&question, &image_of(&[]), 3 * (last - first + 1));
+    }
+}
+
+#[test]
+fn refusal_14() {
+    for station_class in [8, 9, 256, 256 + 3, u32::MAX] {
+        for (zone, lat) in [(3, 0), (0, 0), (3, 270_001)] {
+            proposal_refused(
+                250,
+                Proposal {
+                    station_class,
+                    zone,
+                    lat,
+                    lon: 0,
+                },
+                14,
+            );
+        }
+    }
+}
+
+#[test]
+fn refusal_15() {
+    for zone in [0, 4, 256 + 3, u32::MAX] {
+        for (station_class, lat) in [(0, 0), (1, 0), (7, 0), (0, 270_001)] {
+            proposal_refused(
+                250,
+                Proposal {
+                    station_class,
+                    zone,
+                    lat,
+                    lon: 0,
+                },
+                15,
+            );
+        }
+    }
+}
+
+/// Zones 1 and 2 permit A, B1 and B; zone 3 permits A, C3, C2, C1, C0 and C.
+#[test]
+fn refusal_16() {
+    for zone in 1..=3 {
+        for station_class in 0..=7 {
+            let permitted = if zone == 3 {
+                [0, 3, 4, 5, 6, 7].contains(&station_class)
+            } else {
+                station_class <= 2
+            };
+            for lat in [100_000, 270_001] {
+                let proposal = Proposal {
+                    station_class,
+                    zone,
+                    lat,
+                    lon: 0,
+                };
+                if !permitted {
+                    proposal_refused(250, proposal, 16);
+                } else if lat == 270_001 {
+                    proposal_refused(250, proposal, 17);
+                } else {
+                    granted(
+                        &Question::Check {
+                            channel: 250,
+                            proposal,
+                        },
+                        &image_of(&[]),
+                        0,
+                    );
+                    granted(
+                        &Question::Arrange {
+                            first: 250,
+                            last: 250,
+                            proposal,
+                        },
+                        &image_of(&[]),
+                        3,
+                    );
+                    granted(
+                        &Question::Add {
+                            id: 1,
+                            channel: 250,
+                            proposal,
+                        },
+                        &image_of(&[]),
+                        24,
+                    );
+                }
+            }
+        }
+    }
+}
+
+const OUTSIDE: [(i32, i32); 9] = [
+    (270_001, 0),
+    (-270_001, 0),
+    (0, 648_001),
+    (0, -648_001),
+    (i32::MAX, i32::MAX),
+    (i32::MIN, 0),
+    (0, i32::MIN),
+    (i32::MIN, i32::MIN),
+    (270_000, i32::MAX),
+];
+
+#[test]
+fn refusal_17() {
+    for (lat, lon) in OUTSIDE {
+        proposal_refused(250, class_a(lat, lon), 17);
+        for (inner_lat, inner_lon) in [(0, 0), (270_000, 648_000), (-270_000, -648_000), (lat, lon)]
+        {
+            let question = Question::Distance {
+                lat1: lat,
+                lon1: lon,
+                lat2: inner_lat,
+                lon2: inner_lon,
+            };
+            refused(&question, &[], 17, 0);
+            let question = Question::Distance {
+                lat1: inner_lat,
+                lon1: inner_lon,
+                lat2: lat,
+                lon2: lon,
+            };
+            refused(&question, &[], 17, 0);
+        }
+    }
+    for (lat, lon) in [
+        (270_000, 648_000),
+        (-270_000, -648_000),
+        (270_000, -648_000),
+        (-270_000, 648_000),
+    ] {
+        granted(
+            &Question::Check {
+                channel: 250,
+                proposal: class_a(lat, lon),
+            },
+            &two(),
+            0,
+        );
+        let question = Question::Distance {
+            lat1: lat,
+            lon1: lon,
+            lat2: lat,
+            lon2: lon,
+        };
+        assert_eq!(agree_in(&question, &[], 0, 0).answer, Answer::Granted(0));
+    }
+}
+
+/// Id 0, also where the proposal is short and the table is full.
+#[test]
+fn refusal_18() {
+    for table in [image_of(&[]), two(), full(STATION)] {
+        for lat in [0, 200_000] {
+            refused(
+                &Question::Add {
+                    id: 0,
+                    channel: 250,
+                    proposal: class_a(lat, 0),
+                },
+                &table,
+                18,
+                0,
+            );
+        }
+    }
+}
+
+/// An id that is present, with its position, also where the proposal is short and the table is full.
+#[test]
+fn refusal_19() {
+    for lat in [0, 200_000] {
+        let proposal = class_a(lat, 0);
+        refused(
+            &Question::Add {
+                id: 7,
+                channel: 250,
+                proposal,
+            },
+            &two(),
+            19,
+            0,
+        );
+        refused(
+            &Question::Add {
+                id: 8,
+                channel: 250,
+                proposal,
+            },
+            &two(),
+            19,
+            1,
+        );
+        for position in [0, 1, 999, 1_998, 1_999] {
+            let question = Question::Add {
+                id: 10 * (position + 1),
+                channel: 250,
+                proposal,
+            };
+            refused(&question, &full(STATION), 19, position);
+        }
+    }
+}
+
+/// 2,000 stations with the ids 10 to 20,000, all like one.
+fn full(station: Station) -> Vec<u8> {
+    let stations: Vec<Station> = (1..=2_000)
+        .map(|i| Station {
+            id: 10 * i,
+            ..station
+        })
+        .collect();
+    image_of(&stations)
+}
+
+/// Short: the first short position, before a full table and before the room.
+#[test]
+fn refusal_20_of_add() {
+    let table = image_of(&[
+        Station {
+            id: 1,
+            lat: 100_000,
+            ..STATION
+        },
+        Station {
+            id: 3,
+            channel: 254,
+            ..STATION
+        },
+        Station {
+            id: 5,
+            channel: 253,
+            ..STATION
+        },
+        Station {
+            id: 7,
+            channel: 250,
+            ..STATION
+        },
+    ]);
+    for id in [2, 4, 6, 8, u32::MAX] {
+        refused(
+            &Question::Add {
+                id,
+                channel: 250,
+                proposal: class_a(0, 0),
+            },
+            &table,
+            20,
+            2,
+        );
+        refused(
+            &Question::Add {
+                id,
+                channel: 254,
+                proposal: class_a(0, 0),
+            },
+            &table,
+            20,
+            1,
+        );
+        granted(
+            &Question::Add {
+                id,
+                channel: 258,
+                proposal: class_a(0, 0),
+            },
+            &table,
+            8 + 16 * 5,
+        );
+    }
+    refused(
+        &Question::Add {
+            id: 5,
+            channel: 250,
+            proposal: class_a(0, 0),
+        },
+        &full(STATION),
+        20,
+        0,
+    );
+    let stations: Vec<Station> = (1..=2_000)
+        .map(|i| Station {
+            id: 10 * i,
+            lat: if i == 2_000 { 0 } else { 200_000 },
+            ..STATION
+        })
+        .collect();
+    let question = Question::Add {
+        id: 5,
+        channel: 250,
+        proposal: class_a(0, 0),
+    };
+    refused(&question, &image_of(&stations), 20, 1_999);
+}
+
+/// Stations from 201 to 220 make a proposal short too, by difference 1 to 3 and by 53 and 54.
+#[test]
+fn refusal_20_by_a_low_station() {
+    for (low, channel) in [
+        (220, 221),
+        (219, 221),
+        (218, 221),
+        (220, 223),
+        (220, 273),
+        (220, 274),
+        (201, 254),
+        (201, 255),
+    ] {
+        let table = image_of(&[Station {
+            channel: low,
+            ..STATION
+        }]);
+        refused(
+            &Question::Add {
+                id: 9,
+                channel,
+                proposal: class_a(0, 0),
+            },
+            &table,
+            20,
+            0,
+        );
+    }
+    for (low, channel) in [
+        (220, 224),
+        (217, 221),
+        (220, 272),
+        (220, 275),
+        (201, 253),
+        (201, 256),
+    ] {
+        let table = image_of(&[Station {
+            channel: low,
+            ..STATION
+        }]);
+        granted(
+            &Question::Add {
+                id: 9,
+                channel,
+                proposal: class_a(0, 0),
+            },
+            &table,
+            40,
+        );
+    }
+}
+
+#[test]
+fn refusal_20_of_move() {
+    // Position 1 is the one that moves; it is short to position 2 on 254, to position 0 on 240, to nobody on 290.
+    let table = image_of(&[
+        Station {
+            id: 1,
+            channel: 240,
+            ..STATION
+        },
+        Station {
+            id: 3,
+            channel: 270,
+            ..STATION
+        },
+        Station {
+            id: 5,
+            channel: 254,
+            ..STATION
+        },
+    ]);
+    refused(
+        &Question::Move {
+            id: 3,
+            channel: 254,
+        },
+        &table,
+        20,
+        2,
+    );
+    refused(
+        &Question::Move {
+            id: 3,
+            channel: 240,
+        },
+        &table,
+        20,
+        0,
+    );
+    granted(
+        &Question::Move {
+            id: 3,
+            channel: 290,
+        },
+        &table,
+        8 + 16 * 3,
+    );
+    // Its own channel: granted where it is spaced, 20 where it is short.
+    granted(
+        &Question::Move {
+            id: 3,
+            channel: 270,
+        },
+        &table,
+        8 + 16 * 3,
+    );
+    let short = image_of(&[
+        Station {
+            id: 1,
+            channel: 240,
+            ..STATION
+        },
+        Station {
+            id: 3,
+            channel: 270,
+            ..STATION
+        },
+        Station {
+            id: 5,
+            channel: 272,
+            ..STATION
+        },
+    ]);
+    refused(
+        &Question::Move {
+            id: 3,
+            channel: 270,
+        },
+        &short,
+        20,
+        2,
+    );
+    refused(
+        &Question::Move {
+            id: 5,
+            channel: 272,
+        },
+        &short,
+        20,
+        1,
+    );
+    granted(
+        &Question::Move {
+            id: 3,
+            channel: 268,
+        },
+        &short,
+        8 + 16 * 3,
+    );
+    // A fixed station and one at or below 220 stand in the way as well.
+    let table = image_of(&[
+        Station {
+            id: 1,
+            channel: 240,
+            flags: 1,
+            ..STATION
+        },
+        Station {
+            id: 3,
+            channel: 270,
+            ..STATION
+        },
+        Station {
+            id: 5,
+            channel: 220,
+            ..STATION
+        },
+    ]);
+    refused(
+        &Question::Move {
+            id: 3,
+            channel: 240,
+        },
+        &table,
+        20,
+        0,
+    );
+    refused(
+        &Question::Move {
+            id: 3,
+            channel: 223,
+        },
+        &table,
+        20,
+        2,
+    );
+    refused(
+        &Question::Move {
+            id: 3,
+            channel: 274,
+        },
+        &table,
+        20,
+        2,
+    );
+    granted(
+        &Question::Move {
+            id: 3,
+            channel: 224,
+        },
+        &table,
+        8 + 16 * 3,
+    );
+    // A full table is no matter of Move.
+    refused(
+        &Question::Move {
+            id: 10,
+            channel: 250,
+        },
+        &full(STATION),
+        20,
+        1,
+    );
+    refused(
+        &Question::Move {
+            id: 20,
+            channel: 250,
+        },
+        &full(STATION),
+        20,
+        0,
+    );
+    granted(
+        &Question::Move {
+            id: 10,
+            channel: 260,
+        },
+        &full(STATION),
+        IMAGE as u32,
+    );
+}
+
+#[test]
+fn refusal_21() {
+    for id in [1, 15, 20_001] {
+        let question = Question::Add {
+            id,
+            channel: 250,
+            proposal: class_a(200_000, 0),
+        };
+        refused(&question, &full(STATION), 21, 0);
+        let outcome = product(&question, &full(STATION), IMAGE + 16, 0);
+        assert_eq!(
+            outcome.answer,
+            Answer::Refused {
+                number: 21,
+                extra: 0
+            }
+        );
+        assert!(outcome.untouched());
+    }
+    let stations: Vec<Station> = (1..=1_999)
+        .map(|i| Station {
+            id: 10 * i,
+            ..STATION
+        })
+        .collect();
+    let question = Question::Add {
+        id: 15,
+        channel: 250,
+        proposal: class_a(200_000, 0),
+    };
+    granted(&question, &image_of(&stations), IMAGE as u32);
+}
+
+#[test]
+fn refusal_22() {
+    // Check: three numbers for each short station.
+    let check = Question::Check {
+        channel: 250,
+        proposal: class_a(0, 0),
+    };
+    granted(&check, &image_of(&[]), 0);
+    granted(&check, &table_of_one(250, 0, 0, 0), 3);
+    granted(&check, &full(STATION), 6_000);
+    // Arrange: the paper's counts.
+    let arrange = Question::Arrange {
+        first: 221,
+        last: 300,
+        proposal: class_a(0, 0),
+    };
+    granted(&arrange, &image_of(&[]), 240);
+    granted(&arrange, &table_of_one(260, 0, 0, 0), 3 * 584);
+    granted(&arrange, &full(STATION), 3 * 73);
+    let one = Question::Arrange {
+        first: 260,
+        last: 260,
+        proposal: class_a(0, 0),
+    };
+    granted(&one, &table_of_one(260, 0, 0, 0), 3 * 73);
+    granted(
+        &one,
+        &image_of(&[Station {
+            channel: 260,
+            flags: 1,
+            ..STATION
+        }]),
+        0,
+    );
+    // The images: 16 bytes more, 16 less, as many.
+    granted(
+        &Question::Add {
+            id: 9,
+            channel: 230,
+            proposal: class_a(200_000, 0),
+        },
+        &two(),
+        56,
+    );
+    granted(&Question::Withdraw { id: 7 }, &two(), 24);
+    granted(
+        &Question::Withdraw { id: 7 },
+        &table_of_one(250, 0, 0, 0),
+        8,
+    );
+    granted(
+        &Question::Move {
+            id: 7,
+            channel: 260,
+        },
+        &two(),
+        40,
+    );
+    granted(
+        &Question::Withdraw { id: 20_000 },
+        &full(STATION),
+        IMAGE as u32 - 16,
+    );
+}
+
+#[test]
+fn refusal_23() {
+    for table in [image_of(&[]), two(), full(STATION)] {
+        for id in [0, 1, 9, 20_001, u32::MAX] {
+            refused(&Question::Withdraw { id }, &table, 23, 0);
+            for channel in [221, 250, 300] {
+                refused(&Question::Move { id, channel }, &table, 23, 0);
+            }
+        }
+    }
+    // Withdraw takes a fixed station, and one at or below 220.
+    let table = image_of(&[
+        Station {
+            id: 1,
+            flags: 1,
+            ..STATION
+        },
+        Station {
+            id: 2,
+            channel: 201,
+            ..STATION
+        },
+        Station {
+            id: 3,
+            channel: 220,
+            flags: 1,
+            ..STATION
+        },
+    ]);
+    for id in 1..=3 {
+        granted(&Question::Withdraw { id }, &table, 40);
+    }
+}
+
+#[test]
+fn refusal_24() {
+    let far = |lat1, lon1, lat2, lon2| {
+        refused(
+            &Question::Distance {
+                lat1,
+                lon1,
+                lat2,
+                lon2,
+            },
+            &[],
+            24,
+            0,
+        )
+    };
+    far(0, 0, 0, 648_000);
+    far(0, -648_000, 0, 648_000);
+    far(270_000, -648_000, -270_000, 648_000);
+    far(-270_000, 0, 270_000, 0);
+    // Along the equator 15,377 seconds are the last that round to 475 km.
+    let near = Question::Distance {
+        lat1: 0,
+        lon1: 0,
+        lat2: 0,
+        lon2: 15_377,
+    };
+    assert_eq!(agree_in(&near, &[], 0, 0).answer, Answer::Granted(475));
+    far(0, 0, 0, 15_378);
+    far(0, 15_378, 0, 0);
+}
+
+/// Not movable: fixed, or at or below 220; before short and before the room, even on its own channel.
+#[test]
+fn refusal_25() {
+    let table = image_of(&[
+        Station {
+            id: 1,
+            channel: 240,
+            flags: 1,
+            ..STATION
+        },
+        Station {
+            id: 2,
+            channel: 220,
+            ..STATION
+        },
+        Station {
+            id: 3,
+            channel: 201,
+            flags: 1,
+            ..STATION
+        },
+        Station {
+            id: 4,
+            channel: 240,
+            ..STATION
+        },
+        Station {
+            id: 5,
+            channel: 221,
+            ..STATION
+        },
+    ]);
+    for channel in [221, 240, 260, 300] {
+        refused(&Question::Move { id: 1, channel }, &table, 25, 0);
+        refused(&Question::Move { id: 2, channel }, &table, 25, 1);
+        refused(&Question::Move { id: 3, channel }, &table, 25, 2);
+    }
+    refused(
+        &Question::Move {
+            id: 2,
+            channel: 220,
+        },
+        &table,
+        13,
+        0,
+    );
+    refused(
+        &Question::Move {
+            id: 3,
+            channel: 201,
+        },
+        &table,
+        13,
+        0,
+    );
+    refused(
+        &Question::Move {
+            id: 4,
+            channel: 240,
+        },
+        &table,
+        20,
+        0,
+    );
+    granted(
+        &Question::Move {
+            id: 4,
+            channel: 260,
+        },
+        &table,
+        8 + 16 * 5,
+    );
+    granted(
+        &Question::Move {
+            id: 5,
+            channel: 300,
+        },
+        &table,
+        8 + 16 * 5,
+    );
+}

@@ -1,0 +1,3 @@
+pub mod Arrange
+pub mod Meaning
+pub mod Planning

@@ -1,0 +1,12 @@
+pub mod Cases
+pub mod Cuts
+pub mod Held
+pub mod Grants
+pub mod Valid
+pub mod Kept
+pub mod Apart
+pub mod Clean
+pub mod Results
+pub mod Images
+pub mod There
+pub mod Ways

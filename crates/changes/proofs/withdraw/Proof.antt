@@ -1,0 +1,81 @@
+-- `changes::withdraw` meets its contract. Assumes nothing.
+use mathlib.Core.Path.{_≡_, sym, ap, _∙_}
+use mathlib.Core.Bool.{true, false}
+use mathlib.Core.List.{List}
+use Prim.Native.Nat.{ℕ, _≤_, _<_}
+use native.Mathlib.Omega.{arith}
+use lib.Dec.{leb}
+use lib.ListN.{length}
+use borrow.Author.Tests.{leb-false, lt-ltb, le-ltb, not-true, not-false}
+use Rattle.ground.specs.Lists.{some, first}
+use Rattle.stations.specs.Image.{stationAt, stations, judged}
+use Rattle.stations.specs.Lists.{hasId, movable}
+use Rattle.stations.specs.declared.Judged.the-variants.{Table}
+use Rattle.desk.proofs.Answers.{denied}
+use Rattle.changes.specs.Changes.{conflicts}
+use Rattle.changes.proofs.Images.{Ready, ready, within, find-at, first-at}
+use Rattle.changes.proofs.Ways.{table-out, refused-by, granted-by, withdraw-absent, withdraw-present}
+use borrow.Author.Needs.{needs}
+use Rattle.changes.proofs.withdraw.Statement.{statement}
+use Rattle.changes.proofs.withdraw.Tie as tie
+
+told : (c : tie.After-known-told) → judged (c .before .before .before .before .before .before .args .table .now) ≡ Table (c .before .j .given .0 .0)
+told c = sym (c .before .before .before .judge .ensures) ∙ c .before .j .given .1
+
+there : (c : tie.Else1) → some (hasId (c .before .before .before .before .before .before .before .before .before .args .id)) (stations (c .before .before .before .before .before .before .before .before .before .args .table .now)) ≡ true
+there c = sym (c .before .is-there .ensures) ∙ not-false _ (c .if1 .left)
+
+judge-requires : tie.Need-judge-requires
+judge-requires c κs = search needs
+
+enum-known-j : tie.Need-enum-known-j
+enum-known-j c = search needs
+
+enum-told : tie.Need-enum-told
+enum-told c = search needs
+
+left-requires : tie.Need-left-requires
+left-requires c κs = search needs
+
+returns : tie.Need-returns
+returns c = rw (c .left .ensures) (table-out _ _ _ _ _ (c .before .before .before .judge .ensures) (c .before .enum-told .given .1))
+
+place-of-requires : tie.Need-place-of-requires
+place-of-requires c κs = told c
+
+is-there-requires : tie.Need-is-there-requires
+is-there-requires c κs = (told (c .before), c .place-of .ensures)
+
+refused-requires : tie.Need-refused-requires
+refused-requires c κs = search needs
+
+returns-2 : tie.Need-returns-2
+returns-2 c =
+    let h = sym (c .before .before .is-there .ensures) ∙ not-true _ (c .before .if1 .taken) in
+    rw (c .refused .ensures) (refused-by _ _ _ _ _ (told (c .before .before .before .before)) (withdraw-absent _ _ h))
+
+grant-withdraw-requires : tie.Need-grant-withdraw-requires
+grant-withdraw-requires c κs = (told (c .before .before .before .before), (c .before .before .before .place-of .ensures, there (c .before)))
+
+same-length : tie.Need-same-length
+same-length c = search needs
+
+returns-3 : tie.Need-returns-3
+returns-3 c = granted-by _ _ _ _ (told (c .before .before .before .before .before .before .before)) (withdraw-present _ _ (there (c .before .before .before .before))) (c .before .before .grant-withdraw .ensures)
+
+pub withdraw-spec : {M : Type 1} → statement M
+withdraw-spec =
+    tie.close
+    (tie.spec
+    judge-requires
+    enum-known-j
+    enum-told
+    left-requires
+    returns
+    place-of-requires
+    is-there-requires
+    refused-requires
+    returns-2
+    grant-withdraw-requires
+    same-length
+    returns-3)

@@ -1,0 +1,144 @@
+// Add, Withdraw and Move: the new image in a second buffer.
+ghost use mathlib.Core.Path.{_≡_};
+ghost use Rattle.desk.specs.Answers.{Answered};
+ghost use Rattle.changes.specs.Changes.{add as adding, withdraw as withdrawing, move as moving, entering, written, changedFor};
+ghost use Rattle.changes.specs.Lists.{onto};
+ghost use Rattle.spacing.specs.Limits.{Sound};
+ghost use Rattle.stations.specs.Image.{stations, judged};
+ghost use Rattle.stations.specs.declared.Judged.the-variants.{Table};
+
+mod finding;
+mod granting;
+mod writing;
+
+use desk::Answer;
+use finding::first_conflict;
+use finding::is_there;
+use granting::grant_add;
+use granting::grant_move;
+use granting::grant_withdraw;
+use stations::Judged;
+use stations::Station;
+use stations::Verdict;
+
+// What is asked to be added.
+pub struct Newcomer {
+    pub id: u32,
+    pub channel: u32,
+    pub class: u32,
+    pub zone: u32,
+    pub latitude: i32,
+    pub longitude: i32,
+}
+
+// The record set in at its place by id, with flags 0.
+pub fn add(table: &[u8], newcomer: Newcomer, image: &mut [u8]) -> Answer
+    ensures { λ r. ⌜ Answered (changedFor (now (table .entry)) (adding newcomer)) (now (image .entry)) (now (image .exit)) r ⌝ }
+{
+    let j = stations::judge(table);
+    let Judged::Table(n) = j else {
+        return desk::left(j);
+    };
+    let id = newcomer.id;
+    let channel = newcomer.channel;
+    let class = newcomer.class;
+    let zone = newcomer.zone;
+    let latitude = newcomer.latitude;
+    let longitude = newcomer.longitude;
+    let v = desk::asked_fault(channel, channel, class, zone, latitude, longitude);
+    if let Verdict::Faulty(f) = v {
+        return Answer::Refused(f);
+    }
+    let r = Station {
+        id,
+        channel: channel as u16,
+        class: class as u8,
+        flags: 0,
+        latitude,
+        longitude,
+    };
+    enter(table, n, r, image)
+}
+
+// A record to be entered, of a class at a site that passed.
+fn enter(table: &[u8], n: usize, r: Station, image: &mut [u8]) -> Answer
+    requires { ⌜ judged (now table) ≡ Table n ⌝ }
+    requires { ⌜ Sound (r .class) (r .latitude) (r .longitude) ⌝ }
+    ensures { λ a. ⌜ Answered (written (entering (stations (now (table .entry))) r)) (now (image .entry)) (now (image .exit)) a ⌝ }
+{
+    let id = r.id;
+    if id == 0 {
+        return desk::refused(refusals::ID_ZERO);
+    }
+    let p = stations::place_of(table, n, id);
+    if is_there(table, n, p, id) {
+        return desk::refused_with(refusals::ID_PRESENT, p as u32);
+    }
+    let q = first_conflict(table, n, r);
+    if q < n {
+        return desk::refused_with(refusals::SHORT, q as u32);
+    }
+    if stations::is_full(n) {
+        return desk::refused(refusals::TABLE_FULL);
+    }
+    grant_add(table, n, p, r, image)
+}
+
+// The record taken out.
+pub fn withdraw(table: &[u8], id: u32, image: &mut [u8]) -> Answer
+    ensures { λ r. ⌜ Answered (changedFor (now (table .entry)) (withdrawing id)) (now (image .entry)) (now (image .exit)) r ⌝ }
+{
+    let j = stations::judge(table);
+    let Judged::Table(n) = j else {
+        return desk::left(j);
+    };
+    let p = stations::place_of(table, n, id);
+    if !is_there(table, n, p, id) {
+        return desk::refused(refusals::ID_ABSENT);
+    }
+    grant_withdraw(table, n, p, id, image)
+}
+
+// The record on another channel.
+pub fn move_to(table: &[u8], id: u32, channel: u32, image: &mut [u8]) -> Answer
+    ensures { λ r. ⌜ Answered (changedFor (now (table .entry)) (moving id channel)) (now (image .entry)) (now (image .exit)) r ⌝ }
+{
+    let j = stations::judge(table);
+    let Judged::Table(n) = j else {
+        return desk::left(j);
+    };
+    if channel < 221 {
+        return desk::refused(refusals::ASKED_CHANNEL);
+    }
+    if 300 < channel {
+        return desk::refused(refusals::ASKED_CHANNEL);
+    }
+    let p = stations::place_of(table, n, id);
+    if !is_there(table, n, p, id) {
+        return desk::refused(refusals::ID_ABSENT);
+    }
+    let x = stations::station_at(table, p);
+    if !stations::is_movable(x) {
+        return desk::refused_with(refusals::NOT_MOVABLE, p as u32);
+    }
+    let r = moved(x, channel as u16);
+    let near = first_conflict(table, n, r);
+    if near < n {
+        return desk::refused_with(refusals::SHORT, near as u32);
+    }
+    grant_move(table, n, p, r, image)
+}
+
+// A station on another channel.
+fn moved(x: Station, channel: u16) -> Station
+    ensures { λ r. ⌜ r ≡ onto channel x ⌝ }
+{
+    Station {
+        id: x.id,
+        channel,
+        class: x.class,
+        flags: x.flags,
+        latitude: x.latitude,
+        longitude: x.longitude,
+    }
+}

@@ -1,0 +1,4 @@
+pub mod Meaning
+pub mod Columns
+pub mod Noting
+pub mod Listing

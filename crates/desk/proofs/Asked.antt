@@ -1,0 +1,61 @@
+-- What a question that passed its own checks tells. Assumes nothing.
+use mathlib.Core.Path.{_≡_, refl, sym, ap, _∙_}
+use mathlib.Core.Bool.{Bool, true, false, not, _&&_, _||_}
+use Prim.Native.Nat.{ℕ, _≤_, _<_}
+use native.Mathlib.Omega.{arith}
+use lib.Dec.{leb, ltb}
+use lib.IntN.{ℤ, natAbs}
+use borrow.Author.Tests.{leb-true, ltb-false, not-false}
+use Rattle.ground.specs.Guard.{given}
+use Rattle.ground.proofs.Guards.{past, or-was, and-was}
+use Rattle.distance.specs.Distance.{latitudeOk, longitudeOk, Placed}
+use Rattle.part73.specs.Classes.{isClass}
+use Rattle.refusals.specs.declared.Refusal.{Refusal}
+use Rattle.stations.specs.declared.Verdict.{Verdict}
+use Rattle.stations.specs.declared.Verdict.the-variants.{Sound, Faulty}
+use Rattle.desk.specs.Asked.{outside, siteOk, placeFault, askedFault}
+
+never : (f : Refusal) → Faulty f ≡ Sound → ⊥
+never f e = let z : _≡_ {A = ℕ} 0 1 = cc in omega arith
+
+pub site-placed : (latitude longitude : ℤ) → siteOk latitude longitude ≡ true → Placed latitude longitude
+unfolding siteOk latitudeOk longitudeOk
+site-placed latitude longitude e =
+    let h = and-was _ (leb (natAbs longitude) 648000) e in
+    record { north = leb-true (natAbs latitude) 270000 (h .0); east = leb-true (natAbs longitude) 648000 (h .1) }
+
+-- a class, and a site in range
+pub record Fit (class : ℕ) (latitude longitude : ℤ) : Type 0 where
+  pub known : class < 8
+  pub placed : Placed latitude longitude
+
+pub fit : (class zone : ℕ) (latitude longitude : ℤ) → placeFault class zone latitude longitude ≡ Sound → Fit class latitude longitude
+unfolding placeFault isClass
+fit class zone latitude longitude e =
+    let a = past _ _ _ _ e (never _) in
+    let b = past _ _ _ _ (a .1) (never _) in
+    let c = past _ _ _ _ (b .1) (never _) in
+    let d = past _ _ _ _ (c .1) (never _) in
+    record { known = omega (arith, leb-true class 7 (not-false _ (a .0))); placed = site-placed latitude longitude (not-false _ (d .0)) }
+
+-- and new channels from 221 to 300
+pub record Fair (first last class : ℕ) (latitude longitude : ℤ) : Type 0 where
+  pub low : 221 ≤ first
+  pub order : first ≤ last
+  pub high : last ≤ 300
+  pub fits : Fit class latitude longitude
+
+pub fair : (first last class zone : ℕ) (latitude longitude : ℤ) → askedFault first last class zone latitude longitude ≡ Sound → Fair first last class latitude longitude
+unfolding askedFault
+fair first last class zone latitude longitude e =
+    let a = past _ _ _ _ e (never _) in
+    let r = or-was _ _ (a .0) in
+    let q = or-was (outside first) (outside last) (r .0) in
+    let f = or-was (ltb first 221) (ltb 300 first) (q .0) in
+    let l = or-was (ltb last 221) (ltb 300 last) (q .1) in
+    record {
+      low = ltb-false first 221 (f .0);
+      order = ltb-false last first (r .1);
+      high = ltb-false 300 last (l .1);
+      fits = fit class zone latitude longitude (a .1);
+    }

@@ -1,0 +1,3 @@
+pub mod Answers
+pub mod Asked
+pub mod Questions

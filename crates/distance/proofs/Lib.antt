@@ -1,0 +1,6 @@
+pub mod Series
+pub mod Cosines
+pub mod Squares
+pub mod Rounding
+pub mod Nearby
+pub mod Sides

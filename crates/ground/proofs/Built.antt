@@ -1,0 +1,20 @@
+-- A list of a function's first n values: its length, and what is left of it from an index on.
+-- Assumes nothing.
+use mathlib.Core.Path.{_≡_, refl, ap}
+use mathlib.Core.List.{List, [], _∷_}
+use Prim.Native.Nat.{ℕ, zero, suc, _<_, _≤_}
+use native.Mathlib.Nat.{le-of-suc-le-suc, not-suc-le-zero}
+use lib.ListN.{length, drop}
+use Rattle.ground.specs.Lists.{build}
+
+module _ {A : Type 0} where
+  pub length-build : (n : ℕ) (f : ℕ → A) → length (build n f) ≡ n
+  unfolding build
+  length-build zero f = refl
+  length-build (suc n) f = ap suc (length-build n (λ i. f (suc i)))
+
+  pub drop-build : (n : ℕ) (f : ℕ → A) (i : ℕ) → i < n → drop i (build n f) ≡ f i ∷ drop (suc i) (build n f)
+  unfolding build
+  drop-build zero f i h = absurd (not-suc-le-zero h)
+  drop-build (suc n) f zero h = refl
+  drop-build (suc n) f (suc i) h = drop-build n (λ i. f (suc i)) i (le-of-suc-le-suc h)

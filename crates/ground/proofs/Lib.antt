@@ -1,0 +1,10 @@
+pub mod Guards
+pub mod Ranges
+pub mod Signed
+pub mod Spans
+pub mod Members
+pub mod Built
+pub mod Writes
+pub mod Filling
+pub mod Firsts
+pub mod Order

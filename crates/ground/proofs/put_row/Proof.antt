@@ -1,0 +1,44 @@
+use native.Mathlib.Numerals.{add-one, add-two}
+use mathlib.Core.Path.{refl}
+use borrow.Author.Needs.{needs}
+use Rattle.ground.proofs.put_row.Statement.{statement}
+use Rattle.ground.proofs.put_row.Tie as tie
+
+put-requires : tie.Need-put-requires
+put-requires c κs = search needs
+
+add-put : tie.Need-add-put
+add-put c = search needs
+
+put-requires-2 : tie.Need-put-requires-2
+put-requires-2 c κs = search needs
+
+add-put-2 : tie.Need-add-put-2
+add-put-2 c = search needs
+
+put-requires-3 : tie.Need-put-requires-3
+put-requires-3 c κs = search needs
+
+add-result : tie.Need-add-result
+add-result c = search needs
+
+same-length : tie.Need-same-length
+same-length c = search needs
+
+returns : tie.Need-returns
+returns c =
+    let at = c .before .before .before .before .before .before .before .before .before .before .before .before .before .args .at in
+    record { next = refl; stored = cc (add-one at, add-two at) }
+
+pub put-row-spec : {M : Type 1} → statement M
+put-row-spec =
+    tie.close
+    (tie.spec
+    put-requires
+    add-put
+    put-requires-2
+    add-put-2
+    put-requires-3
+    add-result
+    same-length
+    returns)

@@ -1,0 +1,4 @@
+pub mod Guard
+pub mod Lists
+pub mod Rows
+pub mod Writing

@@ -1,0 +1,4 @@
+pub mod Symmetry
+pub mod Rule
+pub mod Facts
+pub mod Zones

@@ -1,0 +1,23 @@
+-- Table A has no order of the two classes.
+-- Assumes nothing.
+use mathlib.Core.Path.{_≡_, refl, _∙_}
+use mathlib.Core.Bool.{_&&_, _||_, and-comm, or-comm}
+use mathlib.Core.List.{List, [], _∷_}
+use Prim.Native.Nat.{ℕ}
+use lib.Dec.{eqb}
+use lib.ListN.{getD}
+use Rattle.part73.specs.TableA.{Relation, _to_∶_, between, relation, tableA, km}
+
+between-swap : (a b : ℕ) (r : Relation) → between a b r ≡ between b a r
+between-swap a b (x to y ∶ s) =
+    or-comm (eqb a x && eqb b y) (eqb a y && eqb b x)
+    ∙ rw (and-comm (eqb a x) (eqb b y), and-comm (eqb a y) (eqb b x))
+
+relation-swap : (a b : ℕ) (rs : List Relation) → relation a b rs ≡ relation b a rs
+unfolding relation
+relation-swap a b [] = refl
+relation-swap a b (r ∷ rs) = rw (between-swap a b r, relation-swap a b rs)
+
+pub km-swap : (a b column : ℕ) → km a b column ≡ km b a column
+unfolding km
+km-swap a b column = rw (relation-swap a b tableA)

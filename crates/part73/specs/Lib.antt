@@ -1,0 +1,5 @@
+pub mod Classes
+pub mod Columns
+pub mod TableA
+pub mod Separations
+pub mod Reading

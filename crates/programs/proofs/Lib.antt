@@ -1,0 +1,4 @@
+pub mod Inputs
+pub mod Decimals
+pub mod Texts
+pub mod Rooms

@@ -1,0 +1,77 @@
+-- 01, The programs: the question that a program's whole input puts. First what is proposed, big-endian, then the table.
+-- Assumes nothing.
+use mathlib.Core.List.{List}
+use Prim.Native.Nat.{ℕ}
+use lib.Dec.{ltb, eqb}
+use lib.IntN.{ℤ}
+use lib.ListN.{length, drop}
+use mir.Syntax.{w32}
+use mir.Val.{toZ}
+use Rattle.ground.specs.Guard.{given}
+use Rattle.wire.specs.Be.{be}
+use Rattle.refusals.specs.Faults.{refusal, UnderEightBytes}
+use Rattle.desk.specs.Answers.{Outcome, deny}
+use Rattle.checks.specs.declared.Proposal.{Proposal}
+use Rattle.checks.specs.Check.{checkedFor}
+use Rattle.arrangements.specs.declared.Wanted.{Wanted}
+use Rattle.arrangements.specs.Arrange.{arrangedFor}
+use Rattle.changes.specs.declared.Newcomer.{Newcomer}
+use Rattle.changes.specs.Changes.{changedFor, add, withdraw, move}
+
+-- the signed number of 32 bits at a place
+abbrev pub signed : List ℕ → ℕ → ℤ
+signed s at = toZ w32 (be 4 s at)
+
+-- input that ends before the table is refused as a table under 8 bytes, whatever the proposal holds
+abbrev pub endsEarly : Outcome
+endsEarly = deny (refusal UnderEightBytes)
+
+-- the question that is put where the input goes past its first k bytes
+unfoldable pub past : ℕ → List ℕ → Outcome → Outcome
+past k input o = given (ltb (length input) k) endsEarly o
+
+-- ---- Check
+
+-- channel 16, class 8, zone 8, latitude 32, longitude 32
+abbrev pub proposalOf : List ℕ → Proposal
+proposalOf s =
+    record { channel = be 2 s 0; class = be 1 s 2; zone = be 1 s 3; latitude = signed s 4; longitude = signed s 8 }
+
+unfoldable pub checkInput : List ℕ → Outcome
+checkInput input = past 12 input (checkedFor (drop 12 input) (proposalOf input))
+
+-- ---- Arrange
+
+-- the same without the channel; one new channel is asked for at a time
+abbrev pub wantedOf : ℕ → List ℕ → Wanted
+wantedOf channel s =
+    record { first = channel; last = channel; class = be 1 s 0; zone = be 1 s 1; latitude = signed s 2; longitude = signed s 6 }
+
+unfoldable pub arrangeInput : ℕ → List ℕ → Outcome
+arrangeInput channel input = past 10 input (arrangedFor (drop 10 input) (wantedOf channel input))
+
+-- ---- Add, Withdraw, Move
+
+-- id 32, channel 16, class 8, zone 8, latitude 32, longitude 32, after the letter
+abbrev pub newcomerOf : List ℕ → Newcomer
+newcomerOf s =
+    record { id = be 4 s 1; channel = be 2 s 5; class = be 1 s 7; zone = be 1 s 8; latitude = signed s 9; longitude = signed s 13 }
+
+unfoldable pub addInput : List ℕ → Outcome
+addInput input = past 17 input (changedFor (drop 17 input) (add (newcomerOf input)))
+
+-- id 32
+unfoldable pub withdrawInput : List ℕ → Outcome
+withdrawInput input = past 5 input (changedFor (drop 5 input) (withdraw (be 4 input 1)))
+
+-- id 32, channel 16
+unfoldable pub moveInput : List ℕ → Outcome
+moveInput input = past 7 input (changedFor (drop 7 input) (move (be 4 input 1) (be 2 input 5)))
+
+-- the letter that names the change: `a`, `w` or `m`; any other, or none, is refused as input that ends early
+unfoldable pub changeInput : List ℕ → Outcome
+changeInput input =
+    given (eqb (be 1 input 0) 97) (addInput input)
+    (given (eqb (be 1 input 0) 119) (withdrawInput input)
+    (given (eqb (be 1 input 0) 109) (moveInput input)
+    endsEarly))

@@ -1,0 +1,153 @@
+// The judgement of a table image.
+use super::answer::OTHER_COUNT;
+use super::answer::OTHER_LENGTH;
+use super::answer::OTHER_MARK;
+use super::answer::OTHER_VERSION;
+use super::answer::RECORD_CHANNEL;
+use super::answer::RECORD_CLASS;
+use super::answer::RECORD_FLAGS;
+use super::answer::RECORD_ID;
+use super::answer::RECORD_LATITUDE;
+use super::answer::RECORD_LONGITUDE;
+use super::answer::SIXTH_BYTE;
+use super::answer::UNDER_EIGHT_BYTES;
+use super::sites::LATITUDES;
+use super::sites::LONGITUDES;
+use super::stations::Station;
+use super::stations::id_at;
+use super::stations::station_at;
+use super::wire::one;
+use super::wire::two;
+ghost use Prim.Native.Nat.{_≤_};
+
+// The most stations that a table holds.
+const MOST: u64 = 2_000;
+
+// 1 to 4, or 0: what is wrong with the first six bytes.
+fn header_fault(table: &[u8]) -> u64
+    ensures { λ r. ⌜ r ≤ 4 ⌝ }
+{
+    if table.len() < 8 {
+        return UNDER_EIGHT_BYTES;
+    }
+    if two(table, 0) != 0x464D {
+        return OTHER_MARK;
+    }
+    if one(table, 2) != 0x53 {
+        return OTHER_MARK;
+    }
+    if two(table, 3) != 1 {
+        return OTHER_VERSION;
+    }
+    if one(table, 5) != 0 {
+        return SIXTH_BYTE;
+    }
+    0
+}
+
+// The id before a position; 0 before the first.
+fn id_before(table: &[u8], position: usize) -> u64
+    requires { ⌜ position ≤ 2000 ⌝ }
+{
+    if position == 0 {
+        return 0;
+    }
+    id_at(table, position - 1)
+}
+
+// 7 to 12, or 0: what is wrong with a record, fields in order.
+fn record_fault(table: &[u8], position: usize) -> u64
+    requires { ⌜ position ≤ 2000 ⌝ }
+    ensures { λ r. ⌜ r ≤ 12 ⌝ }
+{
+    let s = station_at(table, position);
+    if s.id <= id_before(table, position) {
+        return RECORD_ID;
+    }
+    field_fault(s)
+}
+
+// 8 to 12, or 0: what is wrong with a station's own fields.
+fn field_fault(s: Station) -> u64
+    ensures { λ r. ⌜ r ≤ 12 ⌝ }
+{
+    if s.channel < 201 {
+        return RECORD_CHANNEL;
+    }
+    if 300 < s.channel {
+        return RECORD_CHANNEL;
+    }
+    if 7 < s.class {
+        return RECORD_CLASS;
+    }
+    if 1 < s.flags {
+        return RECORD_FLAGS;
+    }
+    if LATITUDES < s.north {
+        return RECORD_LATITUDE;
+    }
+    if LONGITUDES < s.east {
+        return RECORD_LONGITUDE;
+    }
+    0
+}
+
+// A table's judgement: the refusal's number and extra number, or 0 and 0 with the number of stations.
+pub(crate) struct Judged {
+    pub(crate) number: u64,
+    pub(crate) extra: u64,
+    pub(crate) stations: usize,
+}
+
+// The judgement of a table refused as a whole.
+fn unfit(number: u64) -> Judged
+    ensures { λ r. ⌜ (r .number ≤ number) × (r .stations ≤ 2000) ⌝ }
+{
+    Judged {
+        number: number,
+        extra: 0,
+        stations: 0,
+    }
+}
+
+// The judgement by the records of a table: the first fault counts.
+fn judge_records(table: &[u8], n: usize) -> Judged
+    requires { ⌜ n ≤ 2000 ⌝ }
+    ensures { λ r. ⌜ (r .number ≤ 12) × (r .stations ≤ 2000) ⌝ }
+{
+    let mut i: usize = 0;
+    while i < n {
+        let number = record_fault(table, i);
+        if number != 0 {
+            return Judged {
+                number: number,
+                extra: i as u64,
+                stations: 0,
+            };
+        }
+        i += 1;
+    }
+    Judged {
+        number: 0,
+        extra: 0,
+        stations: n,
+    }
+}
+
+// The judgement of a table.
+pub(crate) fn judge(table: &[u8]) -> Judged
+    ensures { λ r. ⌜ (r .number ≤ 12) × (r .stations ≤ 2000) ⌝ }
+{
+    let fault = header_fault(table);
+    if fault != 0 {
+        return unfit(fault);
+    }
+    let n = two(table, 6);
+    if MOST < n {
+        return unfit(OTHER_COUNT);
+    }
+    if table.len() as u64 != 8 + 16 * n {
+        return unfit(OTHER_LENGTH);
+    }
+    judge_records(table, n as usize)
+}

@@ -1,0 +1,3 @@
+pub mod Rule
+pub mod Shortcuts
+pub mod Meaning

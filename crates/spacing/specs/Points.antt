@@ -1,0 +1,44 @@
+-- 01, Both sides of each line: P1 to P12, computed by the definitions. Assumes nothing.
+use mathlib.Core.Bool.{Bool, not}
+use mathlib.Core.List.{List, [], _∷_}
+use Prim.Native.Nat.{ℕ}
+use lib.IntN.{ℤ, pos, negsuc}
+use lib.Dec.{T, eqb}
+use Rattle.ground.specs.Guard.{given}
+use Rattle.ground.specs.Lists.{every}
+use Rattle.distance.specs.Distance.{t, series, c1, c2, c3, c4, c5, P, Q, lonGap, NS, EW, S, root, km as rounded}
+use Rattle.part73.specs.Classes.{A, C}
+use Rattle.part73.specs.Columns.{gap, column}
+use Rattle.part73.specs.TableA.{tableA as rows, relation, km as tableA}
+use Rattle.spacing.specs.Pair.{Assignment, assignment, exempt, columnFor, separation, squareOf, distanceOf, shortBy, short}
+
+-- two stations or two sites, with what is said of them
+pub data Point : Type 0 where
+  shortPair : Assignment → Assignment → Point
+  spacedPair : Assignment → Assignment → Point
+  apart : ℤ → ℤ → ℤ → ℤ → ℕ → Point
+
+abbrev pub right : Point → Bool
+right (shortPair p q) = short p q
+right (spacedPair p q) = not (short p q)
+right (apart lat1 lon1 lat2 lon2 d) = eqb (rounded (S lat1 lon1 lat2 lon2)) d
+
+abbrev pub points : List Point
+points =
+    shortPair (assignment 250 A (pos 0) (pos 0)) (assignment 250 A (pos 0) (pos 3702))
+    ∷ spacedPair (assignment 250 A (pos 0) (pos 0)) (assignment 250 A (pos 0) (pos 3703))
+    ∷ shortPair (assignment 250 A (pos 0) (pos 0)) (assignment 252 A (pos 0) (pos 986))
+    ∷ spacedPair (assignment 250 A (pos 0) (pos 0)) (assignment 252 A (pos 0) (pos 987))
+    ∷ shortPair (assignment 230 A (pos 0) (pos 0)) (assignment 283 A (pos 0) (pos 307))
+    ∷ spacedPair (assignment 230 A (pos 0) (pos 0)) (assignment 283 A (pos 0) (pos 308))
+    ∷ shortPair (assignment 250 C (pos 4712) (pos 0)) (assignment 250 C (negsuc 4711) (pos 0))
+    ∷ spacedPair (assignment 250 C (pos 4713) (pos 0)) (assignment 250 C (negsuc 4712) (pos 0))
+    ∷ spacedPair (assignment 250 A (pos 0) (pos 0)) (assignment 254 A (pos 0) (pos 0))
+    ∷ spacedPair (assignment 230 A (pos 0) (pos 0)) (assignment 282 A (pos 0) (pos 0))
+    ∷ spacedPair (assignment 220 A (pos 0) (pos 0)) (assignment 220 A (pos 0) (pos 0))
+    ∷ apart (pos 0) (pos 0) (pos 0) (pos 3600) 111
+    ∷ []
+
+pub points-right : T (every right points)
+unfolding every given t series c1 c2 c3 c4 c5 P Q lonGap NS EW S root rounded gap column rows relation tableA exempt columnFor separation squareOf distanceOf shortBy
+points-right = tt

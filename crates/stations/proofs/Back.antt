@@ -1,0 +1,194 @@
+-- The image of stations that may stand in a table is a table, and has those stations. Assumes nothing.
+use mathlib.Core.Path.{_≡_, refl, sym, _∙_, ap, ap₂}
+use mathlib.Core.List.{List, [], _∷_, _++_, append-assoc}
+use Prim.Native.Nat.{ℕ, zero, suc, _+_, _*_, _^_, _≤_, _<_}
+use native.Mathlib.Nat.{add-zero, zero-add}
+use native.Mathlib.Omega.{arith}
+use lib.ListN.{length, getD, length-append}
+use lib.Seq.{getD-at}
+use mir.Syntax.{w32}
+use mir.Val.{SFits, ofZ}
+use mir.ValLaws.{toZ-ofZ, ofZ-fits}
+use Rattle.ground.specs.Lists.{build, each}
+use Rattle.ground.proofs.Guards.{guards}
+use Rattle.ground.proofs.Signed.{fit32}
+use Rattle.wire.specs.Be.{be, bytes}
+use Rattle.wire.proofs.Width.{Bytes, be-bytes, be-lt, length-bytes}
+use Rattle.distance.specs.Distance.{latitudeOk, longitudeOk}
+use Rattle.stations.specs.Image.{stationAt, stations, count, headed, numbers, judged, scan, scanned, verdict}
+use Rattle.stations.specs.Version.{top, limit, versionOf}
+use Rattle.stations.specs.Encode.{recordOf, headerOf, encode}
+use Rattle.stations.specs.declared.Station.{Station}
+use Rattle.stations.specs.declared.Verdict.the-variants.{Sound}
+use Rattle.stations.specs.declared.Judged.the-variants.{Table}
+use Rattle.stations.proofs.Versions.{carried, limit-small, version-small}
+use Rattle.stations.proofs.Table.{Marked}
+use Rattle.stations.proofs.Fine.{Fine, Good}
+
+-- a station whose fields fit their places in a record
+pub record Sized (r : Station) : Type 0 where
+  pub id : r .id < 2 ^ 32
+  pub channel : r .channel < 2 ^ 16
+  pub latitude : SFits w32 (r .latitude)
+  pub longitude : SFits w32 (r .longitude)
+
+abbrev pub AllSized : List Station → Type 0
+AllSized [] = Unit {0}
+AllSized (r ∷ rs) = Sized r × AllSized rs
+
+-- ids that fit 32 bits
+abbrev pub SmallIds : List Station → Type 0
+SmallIds [] = Unit {0}
+SmallIds (r ∷ rs) = (r .id < 2 ^ 32) × SmallIds rs
+
+-- a fine record with such an id fits
+pub fine-sized : {t last : ℕ} (r : Station) → Fine t last r → r .id < 2 ^ 32 → Sized r
+fine-sized r f h =
+    record {
+      id = h;
+      channel = omega (arith, f .high);
+      latitude = fit32 (r .latitude) (omega (arith, f .placed .north));
+      longitude = fit32 (r .longitude) (omega (arith, f .placed .east));
+    }
+
+pub good-sized : (rs : List Station) (t last : ℕ) → Good t last rs → SmallIds rs → AllSized rs
+good-sized [] t last g h = tt
+good-sized (r ∷ rs) t last g h = (fine-sized r (g .0) (h .0), good-sized rs t (r .id) (g .1) (h .1))
+
+-- the ids of an image of bytes fit
+small-build : (n : ℕ) (f : ℕ → Station) → ((i : ℕ) → f i .id < 2 ^ 32) → SmallIds (build n f)
+unfolding build
+small-build zero f h = tt
+small-build (suc n) f h = (h zero, small-build n (λ i. f (suc i)) (λ i. h (suc i)))
+
+pub small-stations : (s : List ℕ) → Bytes s → SmallIds (stations s)
+unfolding stations stationAt
+small-stations s b = small-build (count s) (stationAt s) (λ i. be-lt 4 s (8 + 16 * i) b)
+
+-- k bytes of v that stand at `at`
+field : (k v at : ℕ) (s p q : List ℕ) → s ≡ p ++ (bytes k v ++ q) → length p ≡ at → v < 256 ^ k → be k s at ≡ v
+field k v at s p q e l h = rw (e, ← l) (be-bytes k v p q h)
+
+item : (v at : ℕ) (s p q : List ℕ) → s ≡ p ++ v ∷ q → length p ≡ at → getD s at 0 ≡ v
+item v at s p q e l = rw e (getD-at p v q 0 at l)
+
+pub length-record : (r : Station) → length (recordOf r) ≡ 16
+unfolding recordOf
+length-record r = simp (length-append, length-bytes)
+
+-- a record that was written, read back
+module _ (r : Station) (f : Sized r) (p q : List ℕ) (i : ℕ) (l : length p ≡ 8 + 16 * i) where
+  pub record-read : stationAt (p ++ (recordOf r ++ q)) i ≡ r
+  unfolding stationAt recordOf
+  record-read =
+      let at = 8 + 16 * i in
+      let s : List ℕ = p ++ (recordOf r ++ q) in
+      let a = bytes 4 (r .id) in
+      let c = bytes 2 (r .channel) in
+      let x = ofZ w32 (r .latitude) in
+      let y = ofZ w32 (r .longitude) in
+      let fx = f .latitude in
+      let fy = f .longitude in
+      let tail = bytes 4 x ++ (bytes 4 y ++ q) in
+      let p1 = p ++ a in
+      let p2 = p1 ++ c in
+      let p3 = p2 ++ (r .class ∷ []) in
+      let p4 = p3 ++ (r .flags ∷ []) in
+      let p5 = p4 ++ bytes 4 x in
+      let e0 : be 4 s at ≡ r .id = field 4 (r .id) at s p (c ++ r .class ∷ r .flags ∷ tail) (simp append-assoc) l (omega (arith, f .id)) in
+      let e1 : be 2 s (at + 4) ≡ r .channel = field 2 (r .channel) (at + 4) s p1 (r .class ∷ r .flags ∷ tail) (simp append-assoc) (simp (length-append, length-bytes) (omega arith)) (omega (arith, f .channel)) in
+      let e2 : getD s (at + 6) 0 ≡ r .class = item (r .class) (at + 6) s p2 (r .flags ∷ tail) (simp append-assoc) (simp (length-append, length-bytes) (omega arith)) in
+      let e3 : getD s (at + 7) 0 ≡ r .flags = item (r .flags) (at + 7) s p3 tail (simp append-assoc) (simp (length-append, length-bytes) (omega arith)) in
+      let e4 : be 4 s (at + 8) ≡ x = field 4 x (at + 8) s p4 (bytes 4 y ++ q) (simp append-assoc) (simp (length-append, length-bytes) (omega arith)) (omega (arith, ofZ-fits w32 (r .latitude) fx)) in
+      let e5 : be 4 s (at + 12) ≡ y = field 4 y (at + 12) s p5 q (simp append-assoc) (simp (length-append, length-bytes) (omega arith)) (omega (arith, ofZ-fits w32 (r .longitude) fy)) in
+      rw (e0, e1, e2, e3, e4, e5, toZ-ofZ w32 (r .latitude) fx, toZ-ofZ w32 (r .longitude) fy) refl
+
+build-cong : {A : Type 0} (n : ℕ) (f g : ℕ → A) → ((j : ℕ) → f j ≡ g j) → build n f ≡ build n g
+unfolding build
+build-cong zero f g h = refl
+build-cong (suc n) f g h = rw (h zero, build-cong n (λ j. f (suc j)) (λ j. g (suc j)) (λ j. h (suc j)))
+
+reads : (rs : List Station) (p : List ℕ) (i : ℕ) → length p ≡ 8 + 16 * i → AllSized rs → build (length rs) (λ j. stationAt (p ++ each recordOf rs) (i + j)) ≡ rs
+unfolding build each
+reads [] p i l m = refl
+reads (r ∷ rs) p i l m =
+    let body = each recordOf rs in
+    let head : stationAt (p ++ (recordOf r ++ body)) (i + 0) ≡ r = rw add-zero (record-read r (m .0) p body i l) in
+    let rest : build (length rs) (λ j. stationAt ((p ++ recordOf r) ++ body) (i + 1 + j)) ≡ rs =
+    reads rs (p ++ recordOf r) (i + 1) (simp (length-append, length-record) (omega (arith, l))) (m .1) in
+    let same : (j : ℕ) → stationAt (p ++ (recordOf r ++ body)) (i + suc j) ≡ stationAt ((p ++ recordOf r) ++ body) (i + 1 + j) =
+    λ j. let k : i + suc j ≡ i + 1 + j = omega arith in rw (append-assoc, k) in
+    ap₂ (λ (x : Station) (xs : List Station). x ∷ xs) head (build-cong (length rs) _ _ same ∙ rest)
+
+pub length-body : (rs : List Station) → length (each recordOf rs) ≡ 16 * length rs
+unfolding each
+length-body [] = refl
+length-body (r ∷ rs) = simp (length-append, length-record, length-body rs) (omega arith)
+
+pub length-header : (v n : ℕ) → length (headerOf v n) ≡ 8
+unfolding headerOf
+length-header v n = simp (length-append, length-bytes)
+
+pub length-encode : (rs : List Station) → length (encode rs) ≡ 8 + 16 * length rs
+unfolding encode
+length-encode rs = simp (length-append, length-body, length-header)
+
+-- a fine record has no fault
+pub sound : (t last i : ℕ) (r : Station) → Fine t last r → Sound ≡ verdict t last i r
+unfolding verdict latitudeOk longitudeOk
+sound t last i r f =
+    let north = f .placed .north in
+    let east = f .placed .east in
+    search guards depth 14
+
+scan-all : (rs : List Station) (t i last : ℕ) → Good t last rs → scan t i last rs ≡ Table (i + length rs)
+unfolding scan
+scan-all [] t i last g = rw add-zero
+scan-all (r ∷ rs) t i last g =
+    let k : i + 1 + length rs ≡ i + suc (length rs) = omega arith in
+    rw (← sound t last i r (g .0)) (scan-all rs t (i + 1) (r .id) (g .1) ∙ ap Table k)
+
+module _ (rs : List Station) (few : length rs ≤ limit) where
+  counted : count (encode rs) ≡ length rs
+  unfolding encode headerOf
+  counted =
+      field 2 (length rs) 6 (encode rs) (70 ∷ 77 ∷ 83 ∷ (bytes 2 (versionOf rs) ++ 0 ∷ [])) (each recordOf rs) (simp append-assoc) (simp (length-append, length-bytes)) (omega (arith, few, limit-small))
+
+  version : be 2 (encode rs) 3 ≡ versionOf rs
+  unfolding encode headerOf
+  version = field 2 (versionOf rs) 3 (encode rs) (70 ∷ 77 ∷ 83 ∷ []) (0 ∷ (bytes 2 (length rs) ++ each recordOf rs)) (simp append-assoc) refl (omega (arith, version-small rs))
+
+  blank : getD (encode rs) 5 0 ≡ 0
+  unfolding encode headerOf
+  blank = item 0 5 (encode rs) (70 ∷ 77 ∷ 83 ∷ bytes 2 (versionOf rs)) (bytes 2 (length rs) ++ each recordOf rs) (simp append-assoc) (simp length-bytes)
+
+  marked : Marked (encode rs)
+  unfolding encode headerOf
+  marked = (refl, refl, refl)
+
+  pub headed-image : headed (encode rs) ≡ Table (length rs)
+  unfolding headed numbers
+  headed-image =
+      let a : 8 ≤ 8 + 16 * length rs = omega arith in
+      let v = carried rs few in
+      rw (marked .0, marked .1, marked .2, version, blank, counted, length-encode rs, v .0, v .1) (sym (search guards depth 12))
+
+  module _ (m : AllSized rs) where
+    pub stations-image : stations (encode rs) ≡ rs
+    unfolding stations encode
+    stations-image =
+        rw counted (build-cong (length rs) _ _ (λ j. rw zero-add) ∙ reads rs (headerOf (versionOf rs) (length rs)) 0 (length-header _ _) m)
+
+    -- what stations in their image are judged: by their records alone
+    pub judged-scan : judged (encode rs) ≡ scan (top (versionOf rs)) 0 0 rs
+    unfolding judged scanned
+    judged-scan = rw (headed-image, stations-image, version)
+
+    pub judged-image : Good (top (versionOf rs)) 0 rs → judged (encode rs) ≡ Table (length rs)
+    judged-image g = judged-scan ∙ (scan-all rs (top (versionOf rs)) 0 0 g ∙ ap Table (zero-add (length rs)))
+
+  -- the encoding of a valid list is accepted, and has its stations
+  pub image-sound : Good (top (versionOf rs)) 0 rs → SmallIds rs → (judged (encode rs) ≡ Table (length rs)) × (stations (encode rs) ≡ rs)
+  image-sound g h =
+      let m = good-sized rs (top (versionOf rs)) 0 g h in
+      (judged-image m g, stations-image m)

@@ -1,0 +1,7 @@
+pub mod Versions
+pub mod Table
+pub mod Fine
+pub mod Image
+pub mod Back
+pub mod Places
+pub mod Cuts

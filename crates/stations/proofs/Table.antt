@@ -1,0 +1,141 @@
+-- A table that is judged whole: its length, and its records one after the other. What every loop over the records cites.
+-- Assumes nothing.
+use mathlib.Core.Path.{_≡_, refl, _∙_, ap}
+use mathlib.Core.List.{List, [], _∷_}
+use mathlib.Core.Bool.{Bool, true, false}
+use Prim.Native.Nat.{ℕ, _+_, _*_, _≤_, _<_}
+use native.Mathlib.Numerals.{add-one}
+use native.Mathlib.Omega.{arith}
+use lib.Dec.{eqb}
+use lib.ListN.{length, getD, drop, drop-of-length-le}
+use borrow.Author.Tests.{eqb-true}
+use Rattle.ground.specs.Lists.{first}
+use Rattle.ground.proofs.Guards.{past, not-was, and-was}
+use Rattle.ground.proofs.Built.{length-build, drop-build}
+use Rattle.refusals.specs.declared.Refusal.{Refusal}
+use Rattle.stations.specs.Version.{known, carries, top, limit}
+use Rattle.stations.specs.Image.{stationAt, stations, version, count, verdict, after, scan, numbers, headed, scanned, judged, then}
+use Rattle.stations.specs.declared.Station.{Station}
+use Rattle.stations.specs.declared.Verdict.{Verdict}
+use Rattle.stations.specs.declared.Verdict.the-variants.{Sound, Faulty}
+use Rattle.stations.specs.declared.Judged.{Judged}
+use Rattle.stations.specs.declared.Judged.the-variants.{Table, Refused}
+use Rattle.stations.proofs.Versions.{few}
+
+abbrev pub Marked : List ℕ → Type 0
+Marked s = (getD s 0 0 ≡ 70) × (getD s 1 0 ≡ 77) × (getD s 2 0 ≡ 83)
+
+pub record Whole (s : List ℕ) (n : ℕ) : Type 0 where
+  pub mark : Marked s
+  pub versioned : known (version s) ≡ true
+  pub ranged : carries (version s) n ≡ true
+  pub blank : getD s 5 0 ≡ 0
+  pub counted : count s ≡ n
+  pub long : length s ≡ 8 + 16 * n
+  pub few : n ≤ limit
+
+module _ {s : List ℕ} {n : ℕ} (w : Whole s n) where
+  pub length-stations : length (stations s) ≡ n
+  unfolding stations
+  length-stations = length-build (count s) (stationAt s) ∙ w .counted
+
+  -- the next record, and those after it
+  pub next : (i : ℕ) → i < n → drop i (stations s) ≡ stationAt s i ∷ drop (i + 1) (stations s)
+  unfolding stations
+  next i h = rw (add-one, drop-build (count s) (stationAt s) i (omega (arith, w .counted)))
+
+  -- none is left
+  pub done : (i : ℕ) → n ≤ i → drop i (stations s) ≡ []
+  done i h = drop-of-length-le (stations s) {i = i} (omega (arith, length-stations))
+
+  -- a sound record: those after it are judged
+  pub scan-on : (t i last : ℕ) → i < n → verdict t last i (stationAt s i) ≡ Sound → scan t i last (drop i (stations s)) ≡ scan t (i + 1) (stationAt s i .id) (drop (i + 1) (stations s))
+  unfolding scan
+  scan-on t i last h e = rw (next i h, e)
+
+  -- a faulty one: that is the judgement
+  pub scan-stop : (t i last : ℕ) (f : Refusal) → i < n → verdict t last i (stationAt s i) ≡ Faulty f → scan t i last (drop i (stations s)) ≡ Refused f
+  unfolding scan
+  scan-stop t i last f h e = rw (next i h, e)
+
+  pub scan-end : (t i last : ℕ) → i ≤ n → n ≤ i → scan t i last (drop i (stations s)) ≡ Table n
+  unfolding scan
+  scan-end t i last h e = let z : i ≡ n = omega arith in rw (done i e) (ap Table z)
+
+  -- the first record that passes p, looked for from i on
+  pub first-here : (p : Station → Bool) (i : ℕ) → i < n → p (stationAt s i) ≡ true → first p (drop i (stations s)) ≡ 0
+  unfolding first
+  first-here p i h e = rw (next i h, e)
+
+  pub first-on : (p : Station → Bool) (i : ℕ) → i < n → p (stationAt s i) ≡ false → i + first p (drop i (stations s)) ≡ i + 1 + first p (drop (i + 1) (stations s))
+  unfolding first
+  first-on p i h e = rw (next i h, e) (omega arith)
+
+  pub first-end : (p : Station → Bool) (i : ℕ) → n ≤ i → first p (drop i (stations s)) ≡ 0
+  unfolding first
+  first-end p i h = rw (done i h)
+
+pub never : (f : Refusal) (n : ℕ) → Refused f ≡ Table n → ⊥
+never f n e = let z : _≡_ {A = ℕ} 0 1 = cc in omega arith
+
+same : {m n : ℕ} → Table m ≡ Table n → m ≡ n
+same e = cc
+
+whole-numbers : (s : List ℕ) (n : ℕ) → Marked s → numbers s ≡ Table n → Whole s n
+unfolding numbers
+whole-numbers s n m e =
+    let a = past _ _ _ _ e (never _ n) in
+    let b = past _ _ _ _ (a .1) (never _ n) in
+    let c = past _ _ _ _ (b .1) (never _ n) in
+    let d = past _ _ _ _ (c .1) (never _ n) in
+    let k : count s ≡ n = same (d .1) in
+    let r : carries (version s) (count s) ≡ true = not-was _ (c .0) in
+    record {
+      mark = m;
+      versioned = not-was _ (a .0);
+      ranged = rw k at r;
+      blank = eqb-true (getD s 5 0) 0 (not-was _ (b .0));
+      counted = k;
+      long = omega (arith, eqb-true (length s) (8 + 16 * count s) (not-was _ (d .0)));
+      few = rw k at (few (version s) (count s) r);
+    }
+
+pub whole-headed : (s : List ℕ) (n : ℕ) → headed s ≡ Table n → Whole s n
+unfolding headed
+whole-headed s n e =
+    let a = past _ _ _ _ (past _ _ _ _ e (never _ n) .1) (never _ n) in
+    let m = and-was _ (eqb (getD s 2 0) 83) (not-was _ (a .0)) in
+    let l = and-was (eqb (getD s 0 0) 70) (eqb (getD s 1 0) 77) (m .0) in
+    whole-numbers s n (eqb-true (getD s 0 0) 70 (l .0), eqb-true (getD s 1 0) 77 (l .1), eqb-true (getD s 2 0) 83 (m .1)) (a .1)
+
+-- the header is right: the records are judged
+pub judged-on : (s : List ℕ) (n : ℕ) → headed s ≡ Table n → judged s ≡ scanned s
+unfolding judged
+judged-on s n e = rw e
+
+-- it is not: that is the judgement
+pub judged-left : (s : List ℕ) (h : Judged) (f : Refusal) → h ≡ headed s → h ≡ Refused f → h ≡ judged s
+unfolding judged
+judged-left s h f e g = rw (← e, g)
+
+-- a record was sound, since the table was judged whole
+pub sound-of : (v : Verdict) (j : Judged) (n : ℕ) → after v j ≡ Table n → (v ≡ Sound) × (j ≡ Table n)
+sound-of Sound j n e = (refl, e)
+sound-of (Faulty f) j n e = absurd (never f n e)
+
+scan-count : (rs : List Station) (t i last n : ℕ) → scan t i last rs ≡ Table n → n ≡ i + length rs
+unfolding scan
+scan-count [] t i last n e = omega (arith, same e)
+scan-count (r ∷ rs) t i last n e = omega (arith, scan-count rs t (i + 1) (r .id) n (sound-of (verdict t last i r) _ n e .1))
+
+pub headed-of : (h j : Judged) (n : ℕ) → then h j ≡ Table n → (m : ℕ) × (h ≡ Table m) × (j ≡ Table n)
+headed-of (Table m) j n e = (m, refl, e)
+headed-of (Refused f) j n e = absurd (never f n e)
+
+pub whole : (s : List ℕ) (n : ℕ) → judged s ≡ Table n → Whole s n
+unfolding judged scanned
+whole s n e =
+    let h = headed-of (headed s) (scanned s) n e in
+    let w = whole-headed s (h .0) (h .1) in
+    let k : h .0 ≡ n = omega (arith, scan-count (stations s) (top (version s)) 0 0 n (h .2), length-stations w) in
+    rw k at w

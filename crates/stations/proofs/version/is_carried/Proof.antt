@@ -1,0 +1,12 @@
+-- `stations::version::is_carried` meets its contract. Assumes nothing.
+use mathlib.Core.Path.{refl}
+use Rattle.stations.specs.Version.{carries}
+use Rattle.stations.proofs.version.is_carried.Statement.{statement}
+use Rattle.stations.proofs.version.is_carried.Tie as tie
+
+returns : tie.Need-returns
+unfolding carries
+returns c = refl
+
+pub is-carried-spec : {M : Type 1} → statement M
+is-carried-spec = tie.close (tie.spec returns)

@@ -1,0 +1,4 @@
+pub mod Version
+pub mod Image
+pub mod Encode
+pub mod Lists

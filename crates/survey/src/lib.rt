@@ -1,0 +1,93 @@
+// Who stands in the way of a station of a class at a site: one record of the table at a time, or on each channel of a
+// range by one pass over the table.
+ghost use mathlib.Core.Path.{_≡_};
+ghost use Prim.Native.Nat.{_≤_, _<_};
+ghost use lib.ListN.{length};
+ghost use Rattle.part73.specs.TableA.{km as tableA};
+ghost use Rattle.spacing.specs.Pair.{assignment, short};
+ghost use Rattle.spacing.specs.Limits.{Sound, Near};
+ghost use Rattle.stations.specs.Image.{stationAt, judged};
+ghost use Rattle.stations.specs.declared.Judged.the-variants.{Table};
+ghost use Rattle.survey.specs.Ways.{asItStands, everyRecord, blocks};
+ghost use Rattle.survey.specs.Marks.{Marked, Struck};
+
+mod marking;
+
+use marking::strike;
+use marking::touches;
+use marking::wipe;
+
+// Whether a station of a class at a site, on a channel, is short to the record at position i.
+pub fn short_at(
+    table: &[u8],
+    n: usize,
+    i: usize,
+    channel: usize,
+    class: usize,
+    near: &[u64; 48],
+    lat: i32,
+    lon: i32,
+) -> bool
+    requires { ⌜ judged (now table) ≡ Table n ⌝ }
+    requires { ⌜ (i < n) × ((Near tableA class lat (now near)) × (Sound class lat lon)) ⌝ }
+    ensures { λ r. ⌜ r ≡ short (assignment channel class lat lon) (asItStands (stationAt (now (table .entry)) i)) ⌝ }
+{
+    let r = stations::station_at(table, i);
+    let c = r.channel as usize;
+    let theirs = r.class as usize;
+    let lat2 = r.latitude;
+    let lon2 = r.longitude;
+    spacing::is_short(channel, class, near, lat, lon, c, theirs, lat2, lon2)
+}
+
+// Marks the channels from first to last on which the record at position i stands in the way.
+fn look_at(
+    table: &[u8],
+    n: usize,
+    i: usize,
+    class: usize,
+    near: &[u64; 48],
+    lat: i32,
+    lon: i32,
+    first: usize,
+    last: usize,
+    marks: &mut [u16; 80],
+)
+    requires { ⌜ judged (now table) ≡ Table n ⌝ }
+    requires { ⌜ (i < n) × ((Near tableA class lat (now near)) × ((Sound class lat lon) × ((length (now marks) ≡ 80) × ((221 ≤ first) × (last ≤ 300))))) ⌝ }
+    ensures { λ _. ⌜ Struck (λ m. blocks everyRecord (now (table .entry)) (assignment m class lat lon) i) first last i (now (marks .entry)) (now (marks .exit)) ⌝ }
+{
+    let c = stations::channel_at(table, i) as usize;
+    if touches(c, first, last) {
+        let r = stations::station_at(table, i);
+        let theirs = r.class as usize;
+        let lat2 = r.latitude;
+        let lon2 = r.longitude;
+        let who = i as u16;
+        strike(class, near, lat, lon, c, theirs, lat2, lon2, who, marks);
+    }
+}
+
+// The marks of the channels from first to last.
+pub fn survey(
+    table: &[u8],
+    n: usize,
+    class: usize,
+    lat: i32,
+    lon: i32,
+    first: usize,
+    last: usize,
+    marks: &mut [u16; 80],
+)
+    requires { ⌜ judged (now table) ≡ Table n ⌝ }
+    requires { ⌜ (Sound class lat lon) × ((length (now marks) ≡ 80) × ((221 ≤ first) × (last ≤ 300))) ⌝ }
+    ensures { λ _. ⌜ Marked (λ m j. blocks everyRecord (now (table .entry)) (assignment m class lat lon) j) first last n (now (marks .exit)) ⌝ }
+{
+    wipe(marks);
+    let near = spacing::limits_of(class, lat);
+    let mut i: usize = 0;
+    while i < n {
+        look_at(table, n, i, class, &near, lat, lon, first, last, marks);
+        i += 1;
+    }
+}

@@ -1,0 +1,125 @@
+/* fms.h: the FM channel-spacing desk under 47 CFR 73.207, for C and C++. Link with libfms.a (x86-64).
+
+   Every question gets an answer in one 64-bit number. Its high half is the refusal's number, 0 where the question was
+   granted. Its low half is then the count written, in bytes for an image and in 32-bit numbers for a list, or the count
+   of stations (fms_read), or the distance in km (fms_distance); with a refusal it is that refusal's extra number.
+   fms_number and fms_value take an answer apart.
+
+   What callers owe, since C cannot be asked to prove it:
+   - a pointer is not null, is aligned for what it points to, and is good for its length: that many elements may be read,
+     of an image or rows also written. This holds for a length of 0 too, where nothing is read or written;
+   - a length counts elements: bytes of a table or an image, 32-bit numbers of rows;
+   - the table and the buffer for the answer do not overlap, and nobody else writes either during the call.
+   Nothing is owed of the numbers: every table, channel, class, zone, id and coordinate gets its decision.
+
+   What callers get:
+   - a refusal writes nothing; a granted answer stands from the buffer's start, and the places after it stay as they were;
+   - no question keeps anything between calls, so several may run at once, each with a buffer of its own.
+
+   Coordinates are seconds of arc, north and east positive. Record positions count from 0. */
+
+#ifndef FMS_H
+#define FMS_H
+
+#include <stddef.h>
+#include <stdint.h>
+
+#ifdef __cplusplus
+extern "C" {
+#endif
+
+/* The classes of stations. */
+enum fms_class {
+    FMS_CLASS_A = 0,
+    FMS_CLASS_B1 = 1,
+    FMS_CLASS_B = 2,
+    FMS_CLASS_C3 = 3,
+    FMS_CLASS_C2 = 4,
+    FMS_CLASS_C1 = 5,
+    FMS_CLASS_C0 = 6,
+    FMS_CLASS_C = 7
+};
+
+/* The zones: I and I-A permit A, B1 and B; II permits A, C3, C2, C1, C0 and C. */
+enum fms_zone {
+    FMS_ZONE_I = 1,
+    FMS_ZONE_I_A = 2,
+    FMS_ZONE_II = 3
+};
+
+/* The refusals, each with its extra number (0 where none is named). */
+enum fms_refusal {
+    FMS_GRANTED = 0,
+    FMS_TABLE_HEADER = 1,            /* the table has under 8 bytes */
+    FMS_TABLE_MARK = 2,              /* it does not begin with FMS */
+    FMS_TABLE_VERSION = 3,           /* its version is not 1 */
+    FMS_TABLE_SIXTH_BYTE = 4,        /* its sixth byte is not 0 */
+    FMS_TABLE_COUNT = 5,             /* its count is over 2,000 */
+    FMS_TABLE_LENGTH = 6,            /* its length is not 8 + 16 x count */
+    FMS_RECORD_ID = 7,               /* id 0, or not above the one before; the position */
+    FMS_RECORD_CHANNEL = 8,          /* channel outside 201 to 300; the position */
+    FMS_RECORD_CLASS = 9,            /* class over 7; the position */
+    FMS_RECORD_FLAGS = 10,           /* other flags than bit 0; the position */
+    FMS_RECORD_LATITUDE = 11,        /* latitude beyond 270,000 seconds; the position */
+    FMS_RECORD_LONGITUDE = 12,       /* longitude beyond 648,000 seconds; the position */
+    FMS_ASKED_CHANNEL = 13,          /* an asked channel outside 221 to 300, or first above last */
+    FMS_ASKED_CLASS = 14,            /* class over 7 */
+    FMS_ASKED_ZONE = 15,             /* zone not 1 to 3 */
+    FMS_ASKED_CLASS_IN_ZONE = 16,    /* the zone does not permit the class */
+    FMS_ASKED_SITE = 17,             /* a given site out of range */
+    FMS_ID_ZERO = 18,                /* add: id 0 */
+    FMS_ID_PRESENT = 19,             /* add: id present; its position */
+    FMS_SHORT = 20,                  /* add, move: short; the first short position */
+    FMS_TABLE_FULL = 21,             /* add: the table already holds 2,000 */
+    FMS_ROOM = 22,                   /* the answer does not fit; the exact room needed, in elements */
+    FMS_ID_ABSENT = 23,              /* withdraw, move: id absent */
+    FMS_TOO_FAR = 24,                /* distance: over 475 km */
+    FMS_NOT_MOVABLE = 25             /* move: fixed, or at or below channel 220; the position */
+};
+
+/* The refusal's number in an answer; 0 where the question was granted. */
+static inline uint32_t fms_number(uint64_t answer) { return (uint32_t)(answer >> 32); }
+
+/* The count or distance in a granted answer; a refusal's extra number. */
+static inline uint32_t fms_value(uint64_t answer) { return (uint32_t)(answer & 0xffffffffu); }
+
+/* The longest table: 2,000 stations. Room for the image after any change. */
+#define FMS_TABLE_MOST (8 + 16 * 2000)
+
+/* The most numbers that fms_check writes: id, D and R of 2,000 stations. */
+#define FMS_CHECK_MOST (3 * 2000)
+
+/* The most numbers that fms_arrange writes: three for each of 79 moves on 80 channels. */
+#define FMS_ARRANGE_MOST (3 * 79 * 80)
+
+/* Judges a table; gives its count of stations. */
+uint64_t fms_read(const uint8_t *table, size_t table_len);
+
+/* The rounded distance between two sites, 0 to 475 km. */
+uint64_t fms_distance(int32_t lat1, int32_t lon1, int32_t lat2, int32_t lon2);
+
+/* The table with a station set in at its place by id, not fixed; gives the image's bytes. */
+uint64_t fms_add(const uint8_t *table, size_t table_len, uint32_t id, uint32_t channel, uint32_t station_class,
+                 uint32_t zone, int32_t lat, int32_t lon, uint8_t *image, size_t image_len);
+
+/* The table without a station; gives the image's bytes. */
+uint64_t fms_withdraw(const uint8_t *table, size_t table_len, uint32_t id, uint8_t *image, size_t image_len);
+
+/* The table with a station on another channel; gives the image's bytes. */
+uint64_t fms_move(const uint8_t *table, size_t table_len, uint32_t id, uint32_t channel, uint8_t *image,
+                  size_t image_len);
+
+/* The stations that are short to a proposal, in table order: id, D in km, R in km of each. 0 numbers: acceptable. */
+uint64_t fms_check(const uint8_t *table, size_t table_len, uint32_t channel, uint32_t station_class, uint32_t zone,
+                   int32_t lat, int32_t lon, uint32_t *rows, size_t rows_len);
+
+/* Every clean arrangement for a new station on first to last: new channel, id moved, its new channel of each; 0 and 0
+   where nothing moves. Ascending by new channel, then id, then moved channel. */
+uint64_t fms_arrange(const uint8_t *table, size_t table_len, uint32_t first, uint32_t last, uint32_t station_class,
+                     uint32_t zone, int32_t lat, int32_t lon, uint32_t *rows, size_t rows_len);
+
+#ifdef __cplusplus
+}
+#endif
+
+#endif

@@ -1,0 +1,679 @@
+#!/bin/sh
+# fm.sh: tests ./fm with good and bad words: each sentence, each status, and what is written or left alone. Prints a line
+# for each failure, and at the end how many passed.
+set -u
+LC_ALL=C
+export LC_ALL
+root=$(cd "$(dirname "$0")/.." && pwd -P)
+room=${TMPDIR:-/tmp}/fm-test.$$
+mkdir "$room" || exit 1
+trap 'chmod -R u+rwx "$room"; rm -rf "$room"' EXIT
+trap 'exit 1' HUP INT TERM
+cd "$room" || exit 1
+fm=$root/fm
+path=$PATH
+passed=0 failed=0
+
+pass() { passed=$((passed + 1)); }
+
+miss() { # SENTENCE
+    failed=$((failed + 1))
+    printf 'FAILED: %s\n' "$(printf '%s' "$1" | tr '\n' '/')"
+}
+
+# Runs fm with WORDS: it must end with STATUS and say, on both outputs, what stands on standard input.
+try() { # STATUS WORDS
+    want=$(cat) status=$1
+    shift
+    got=$(PATH=$path "$fm" "$@" 2>&1 </dev/null)
+    ended=$?
+    if [ "$ended" -ne "$status" ]; then
+        miss "fm $*: status $ended, not $status: $got"
+    elif [ "$got" != "$want" ]; then
+        miss "fm $*: says: $got"
+    else
+        pass
+    fi
+}
+
+# A condition that must hold.
+hold() { # SENTENCE CONDITION
+    sentence=$1
+    shift
+    if "$@"; then pass; else miss "$sentence"; fi
+}
+
+absent() { [ ! -e "$1" ] && [ ! -L "$1" ]; }
+
+# Whether no file but those named is in a folder, temporary ones included.
+only() { # FOLDER NAMES
+    folder=$1
+    shift
+    [ "$(find "$folder" ! -type d | sed 's/.*\///' | sort | tr '\n' ' ')" = "$(printf '%s\n' "$@" | sed '/^$/d' | sort | tr '\n' ' ')" ]
+}
+
+# A file's bytes, in decimal.
+bytes_of() { od -An -v -tu1 "$1" | tr -s ' \n' ' '; }
+
+# ---- tables: 01's one station (id 7, channel 250, class A at 0, 0), an empty one, and damaged ones
+head1='FMS\0000\0001\0000\0000\0001'
+seven='\0000\0000\0000\0007\0000\0372\0000\0000\0000\0000\0000\0000\0000\0000\0000\0000'
+printf '%b' "$head1$seven" >one.fms
+printf '%b' 'FMS\0000\0001\0000\0000\0000' >empty.fms
+printf '%b' "$head1"'\0000\0000\0000\0007\0001\0004\0000\0000\0000\0000\0000\0000\0000\0000\0000\0000' >at260.fms
+printf '%b' 'FMS\0000\0001\0000\0000' >bad1.fms
+: >bad1-empty.fms
+printf '%b' "FMT\0000\0001\0000\0000\0001$seven" >bad2.fms
+printf '%b' "FMS\0000\0002\0000\0000\0001$seven" >bad3.fms
+printf '%b' "FMS\0000\0001\0001\0000\0001$seven" >bad4.fms
+printf '%b' "FMS\0000\0001\0000\0007\0321$seven" >bad5.fms
+printf '%b' "$head1$seven\0000" >bad6.fms
+printf '%b' "FMS\0000\0001\0000\0000\0002$seven$seven" >bad7.fms
+printf '%b' "$head1"'\0000\0000\0000\0007\0001\0055\0000\0000\0000\0000\0000\0000\0000\0000\0000\0000' >bad8.fms
+printf '%b' "$head1"'\0000\0000\0000\0007\0000\0372\0010\0000\0000\0000\0000\0000\0000\0000\0000\0000' >bad9.fms
+printf '%b' "$head1"'\0000\0000\0000\0007\0000\0372\0000\0002\0000\0000\0000\0000\0000\0000\0000\0000' >bad10.fms
+printf '%b' "$head1"'\0000\0000\0000\0007\0000\0372\0000\0000\0377\0373\0341\0117\0000\0000\0000\0000' >bad11.fms
+printf '%b' "$head1"'\0000\0000\0000\0007\0000\0372\0000\0000\0000\0000\0000\0000\0000\0011\0343\0101' >bad12.fms
+# Two thousand stations on channel 201 at one site, ids 1 to 2000.
+{
+    printf '%b' 'FMS\0000\0001\0000\0007\0320'
+    awk 'BEGIN { for (i = 1; i <= 2000; i++) {
+            printf "\\0000\\0000\\0%03o\\0%03o\\0000\\0311\\0000\\0000", int(i / 256), i % 256
+            print "\\0000\\0000\\0000\\0000\\0000\\0000\\0000\\0000" } }' </dev/null |
+        while IFS= read -r part; do printf '%b' "$part"; done
+} >full.fms
+# A fixed station (id 8), one on channel 220 (id 9), and a movable one with every number at its end (id 4294967295).
+{
+    printf '%b' 'FMS\0000\0001\0000\0000\0003'
+    printf '%b' '\0000\0000\0000\0010\0000\0372\0000\0001\0000\0000\0000\0000\0000\0000\0000\0000'
+    printf '%b' '\0000\0000\0000\0011\0000\0334\0004\0000\0000\0002\0075\0006\0377\0373\0357\0223'
+    printf '%b' '\0377\0377\0377\0377\0001\0054\0007\0000\0377\0373\0341\0120\0000\0011\0343\0100'
+} >three.fms
+cp one.fms ./-odd.fms
+cp one.fms 'a table.fms'
+ln -s one.fms link.fms
+ln -s nowhere.fms dangling.fms
+mkdir folder
+before=$(cksum ./*[!g].fms)
+
+# Builds what is missing, so that what follows is answers alone.
+for words in 'check one.fms 221 A II 0 0' 'arrange one.fms A II 0 0' 'show one.fms'; do
+    # shellcheck disable=SC2086
+    "$fm" $words >/dev/null 2>said </dev/null || {
+        cat said
+        printf 'fm: %s passed, 1 failed\n' "$passed"
+        exit 1
+    }
+done
+rm -f said
+
+# ---- help and the words of a command
+first='fm: which FM channels fit at a site under 47 CFR 73.207'
+for word in help --help -h; do
+    hold "fm $word" [ "$("$fm" "$word" | sed 1q)" = "$first" ]
+done
+"$fm" help >/dev/null
+hold "fm help: status" [ $? -eq 0 ]
+hold "fm without words: the page, on the error output" [ "$("$fm" 2>&1 >/dev/null | sed 1q)" = "$first" ]
+"$fm" 2>/dev/null
+hold "fm without words: status 2" [ $? -eq 2 ]
+try 2 chek one.fms <<'SAYS'
+fm: 'chek' is no command: ./fm help lists them
+SAYS
+try 2 '' <<'SAYS'
+fm: '' is no command: ./fm help lists them
+SAYS
+try 2 check one.fms 250 A II 0 <<'SAYS'
+fm: wrong number of words for check (5, not 6): ./fm check TABLE CHANNEL CLASS ZONE LAT LON
+SAYS
+try 2 check one.fms 250 A II 0 0 0 <<'SAYS'
+fm: wrong number of words for check (7, not 6): ./fm check TABLE CHANNEL CLASS ZONE LAT LON
+SAYS
+try 2 arrange <<'SAYS'
+fm: wrong number of words for arrange (0, not 5): ./fm arrange TABLE CLASS ZONE LAT LON
+SAYS
+try 2 add one.fms new.fms 9 250 A II 0 <<'SAYS'
+fm: wrong number of words for add (7, not 8): ./fm add TABLE NEW ID CHANNEL CLASS ZONE LAT LON
+SAYS
+try 2 withdraw one.fms 7 <<'SAYS'
+fm: wrong number of words for withdraw (2, not 3): ./fm withdraw TABLE NEW ID
+SAYS
+try 2 move one.fms new.fms 7 <<'SAYS'
+fm: wrong number of words for move (3, not 4): ./fm move TABLE NEW ID CHANNEL
+SAYS
+try 2 show <<'SAYS'
+fm: wrong number of words for show (0, not 1): ./fm show TABLE
+SAYS
+try 2 show --raw one.fms <<'SAYS'
+fm: show has no --raw: no proved program prints a table
+SAYS
+
+# ---- check
+try 0 check one.fms 250 A II 0 3702 <<'SAYS'
+Channel 250 is not acceptable for class A in zone II at 00-00-00N 001-01-42E:
+1 station is short.
+  station 7 on 250 (class A)  is 114 km away and should be 115 km: short by 1 km
+SAYS
+for east in 001-01-42E 1-1-42e 01-01-42E +3702 03702; do
+    try 0 check one.fms 250 a ii 00-00-00S "$east" <<'SAYS'
+Channel 250 is not acceptable for class A in zone II at 00-00-00N 001-01-42E:
+1 station is short.
+  station 7 on 250 (class A)  is 114 km away and should be 115 km: short by 1 km
+SAYS
+done
+for west in 001-01-43W -3703 -03703; do
+    try 0 check one.fms 0250 A I-A -0 "$west" <<'SAYS'
+Nothing is short: channel 250 is acceptable for class A in zone I-A at 00-00-00N 001-01-43W.
+SAYS
+done
+try 0 check --raw one.fms 250 A II 0 3702 <<'SAYS'
+short 1
+7 114 115
+SAYS
+try 0 --raw check one.fms 250 A II 0 3703 <<'SAYS'
+short 0
+SAYS
+try 0 check one.fms 250 A --raw II 0 3703 <<'SAYS'
+short 0
+SAYS
+try 0 check one.fms 250 A II 0 3703 --raw <<'SAYS'
+short 0
+SAYS
+try 0 check -odd.fms 250 B1 i 75-00-00N 180-00-00W <<'SAYS'
+Nothing is short: channel 250 is acceptable for class B1 in zone I at 75-00-00N 180-00-00W.
+SAYS
+try 0 check 'a table.fms' 252 C II 75-00-00S 180-00-00E <<'SAYS'
+Nothing is short: channel 252 is acceptable for class C in zone II at 75-00-00S 180-00-00E.
+SAYS
+try 0 check link.fms 300 C0 II 270000 648000 <<'SAYS'
+Nothing is short: channel 300 is acceptable for class C0 in zone II at 75-00-00N 180-00-00E.
+SAYS
+try 0 check three.fms 299 C II -269999 647999 <<'SAYS'
+Channel 299 is not acceptable for class C in zone II at 74-59-59S 179-59-59E:
+1 station is short.
+  station 4294967295 on 300 (class C)  is   0 km away and should be 241 km: short by 241 km
+SAYS
+for class in A B1 B b1 b; do
+    try 0 check empty.fms 221 "$class" I 0 0 --raw <<'SAYS'
+short 0
+SAYS
+done
+for class in C3 C2 C1 C0 C c3 c2 c1 c0 c; do
+    try 0 check empty.fms 300 "$class" II 0 0 --raw <<'SAYS'
+short 0
+SAYS
+done
+
+# ---- arrange
+try 0 arrange one.fms A II 0 0 <<'SAYS'
+Class A in zone II at 00-00-00N 000-00-00E: of 80 channels
+73 are free, 7 open by one move, 0 are shut.
+
+             1 2 3 4 5  6 7 8 9 0
+  221-230    o o o o o  o o o o o
+  231-240    o o o o o  o o o o o
+  241-250    o o o o o  o + + + +
+  251-260    + + + o o  o o o o o
+  261-270    o o o o o  o o o o o
+  271-280    o o o o o  o o o o o
+  281-290    o o o o o  o o o o o
+  291-300    o o o o o  o o o o o
+
+  o free   + opens by one move   . shut
+
+Free: 221-246, 254-300.
+
+Open by one move:
+  247 if station 7 (class A) moves from 250 to one of 221-243, 251-299.
+  248 if station 7 (class A) moves from 250 to one of 221-244, 252-300.
+  249 if station 7 (class A) moves from 250 to one of 221-245, 253-300.
+  250 if station 7 (class A) moves from 250 to one of 221-246, 254-300.
+  251 if station 7 (class A) moves from 250 to one of 221-247, 255-300.
+  252 if station 7 (class A) moves from 250 to one of 221-248, 256-300.
+  253 if station 7 (class A) moves from 250 to one of 221-249, 257-300.
+SAYS
+try 0 arrange three.fms A II 0 0 <<'SAYS'
+Class A in zone II at 00-00-00N 000-00-00E: of 80 channels
+73 are free, 0 open by one move, 7 are shut.
+
+             1 2 3 4 5  6 7 8 9 0
+  221-230    o o o o o  o o o o o
+  231-240    o o o o o  o o o o o
+  241-250    o o o o o  o . . . .
+  251-260    . . . o o  o o o o o
+  261-270    o o o o o  o o o o o
+  271-280    o o o o o  o o o o o
+  281-290    o o o o o  o o o o o
+  291-300    o o o o o  o o o o o
+
+  o free   + opens by one move   . shut
+
+Free: 221-246, 254-300.
+SAYS
+hold "arrange --raw: 80 rows of the empty table" [ "$("$fm" arrange empty.fms C II 0 0 --raw | sort -u | grep -c '^[0-9][0-9]* 0 0$')" -eq 80 ]
+hold "arrange --raw: 584 rows of one station on 260" [ "$("$fm" arrange --raw at260.fms A II 0 0 | wc -l)" -eq 584 ]
+hold "arrange --raw: 73 rows of a fixed one" [ "$("$fm" arrange --raw three.fms A II 0 0 | wc -l)" -eq 73 ]
+
+# ---- show
+try 0 show empty.fms <<'SAYS'
+0 stations
+SAYS
+try 0 show three.fms <<'SAYS'
+3 stations
+position          id  channel  class  move         latitude  longitude
+       0           8      250  A      fixed        00-00-00N 000-00-00E
+       1           9      220  C2     not movable  40-44-54N 073-59-09W
+       2  4294967295      300  C      movable      75-00-00S 180-00-00E
+SAYS
+hold "show: 2,000 stations" [ "$("$fm" show full.fms | wc -l)" -eq 2002 ]
+
+# ---- new tables
+try 0 add one.fms new.fms 9 250 A II 0 3703 <<'SAYS'
+Station 9 is entered on channel 250, class A. new.fms has 2 stations.
+SAYS
+hold "add: the bytes" [ "$(bytes_of new.fms)" = " 70 77 83 0 1 0 0 2 0 0 0 7 0 250 0 0 0 0 0 0 0 0 0 0 0 0 0 9 0 250 0 0 0 0 0 0 0 0 14 119 " ]
+try 0 withdraw new.fms back.fms 00009 <<'SAYS'
+Station 9 is withdrawn. back.fms has 1 station.
+SAYS
+hold "withdraw gives the table before the add" cmp -s back.fms one.fms
+try 0 move new.fms folder/moved.fms 9 300 <<'SAYS'
+Station 9 is moved to channel 300. folder/moved.fms has 2 stations.
+SAYS
+hold "move: the bytes" [ "$(bytes_of folder/moved.fms)" = " 70 77 83 0 1 0 0 2 0 0 0 7 0 250 0 0 0 0 0 0 0 0 0 0 0 0 0 9 1 44 0 0 0 0 0 0 0 0 14 119 " ]
+try 0 add one.fms ./-new.fms 4294967295 300 C II 75-00-00S 180-00-00W <<'SAYS'
+Station 4294967295 is entered on channel 300, class C. ./-new.fms has 2 stations.
+SAYS
+hold "add: the bytes of extremes" [ "$(bytes_of ./-new.fms)" = " 70 77 83 0 1 0 0 2 0 0 0 7 0 250 0 0 0 0 0 0 0 0 0 0 255 255 255 255 1 44 7 0 255 251 225 80 255 246 28 192 " ]
+try 0 withdraw -odd.fms -gone.fms 7 <<'SAYS'
+Station 7 is withdrawn. ./-gone.fms has 0 stations.
+SAYS
+hold "withdraw of the last station gives the empty table" cmp -s ./-gone.fms empty.fms
+try 0 withdraw --raw one.fms 'a new table.fms' 7 <<'SAYS'
+SAYS
+hold "--raw: the table is written" cmp -s 'a new table.fms' empty.fms
+rm -f new.fms back.fms ./-new.fms ./-gone.fms 'a new table.fms' folder/moved.fms
+
+# ---- names of tables
+try 2 check absent.fms 250 A II 0 0 <<'SAYS'
+fm: there is no table absent.fms
+SAYS
+try 2 arrange '' A II 0 0 <<'SAYS'
+fm: the name of the table is empty
+SAYS
+try 2 show folder <<'SAYS'
+fm: folder is not a file, so it is no table
+SAYS
+try 2 show dangling.fms <<'SAYS'
+fm: there is no table dangling.fms
+SAYS
+for name in one.fms ./one.fms "$room/one.fms" folder/../one.fms link.fms; do
+    try 2 withdraw one.fms "$name" 7 <<SAYS
+fm: $name is the table one.fms itself, and a table is never written over its source: name another file
+SAYS
+done
+try 2 move link.fms one.fms 7 221 <<'SAYS'
+fm: one.fms is the table link.fms itself, and a table is never written over its source: name another file
+SAYS
+cp one.fms twin.fms
+for name in empty.fms twin.fms folder dangling.fms; do
+    try 2 add one.fms "$name" 9 221 A II 0 0 <<SAYS
+fm: $name exists already, and nothing is written over: name a file that does not exist
+SAYS
+done
+hold "an existing file keeps its content" cmp -s twin.fms one.fms
+rm -f twin.fms
+try 2 withdraw one.fms '' 7 <<'SAYS'
+fm: the name of the new table is empty
+SAYS
+try 2 withdraw one.fms nofolder/new.fms 7 <<'SAYS'
+fm: there is no folder nofolder to write nofolder/new.fms in
+SAYS
+try 2 withdraw one.fms nofolder/ 7 <<'SAYS'
+fm: nofolder/ is the name of a folder: name the file to write
+SAYS
+
+# ---- numbers and names that are no such thing
+for word in 65536 -1 25x '' ' 250' 0x111 2.5 99999999999999999999; do
+    try 2 check one.fms "$word" A II 0 0 <<SAYS
+fm: '$word' is no channel: a channel is a whole number, 221 to 300
+SAYS
+done
+for word in 4294967296 -7 seven '' 7.0 +7 10000000000 99999999999999999999999; do
+    try 2 withdraw one.fms new.fms "$word" <<SAYS
+fm: '$word' is no id: an id is a whole number of up to 4294967295
+SAYS
+done
+for word in 0 1 D B2 AA '' c4 '*'; do
+    try 2 arrange one.fms "$word" II 0 0 <<SAYS
+fm: '$word' is no class: the classes are A, B1, B, C3, C2, C1, C0 and C
+SAYS
+done
+for word in 1 3 III IA I-B '' 'I '; do
+    try 2 arrange one.fms A "$word" 0 0 <<SAYS
+fm: '$word' is no zone: the zones are I, I-A and II
+SAYS
+done
+for word in 40-44-54 40-44-54E 40-44N 40-60-00N 40-00-60N 1000-00-00N 40-044-54N 40--54N -40-44-54N 40-44-54-N 40-44-54NN N '' \
+    4x4 40.7 2147483648 -2147483649 99999999999999999999 - + --5 '40 44 54N' '*N'; do
+    try 2 check one.fms 250 A II "$word" 0 <<SAYS
+fm: '$word' is no latitude: write degrees-minutes-seconds and N or S, as 40-44-54N, or seconds of arc in 32 bits, as 146694 or -146694
+SAYS
+done
+for word in 073-59-09 073-59-09N 73-59W 073-59-60W 073-60-00E W 2147483648 -2147483649 +073-59-09W; do
+    try 2 check one.fms 250 A II 0 "$word" <<SAYS
+fm: '$word' is no longitude: write degrees-minutes-seconds and E or W, as 073-59-09W, or seconds of arc in 32 bits, as 266349 or -266349
+SAYS
+done
+
+# ---- refusals of the table, by every command
+anew='The table is damaged: get it anew from its office.'
+damage() { # NUMBER TABLE SENTENCE
+    try 1 show "$2" <<SAYS
+fm: refused with number $1: $3. $anew
+SAYS
+    try 1 check "$2" 220 A II 0 0 <<SAYS
+fm: refused with number $1: $3. $anew
+SAYS
+    try 1 arrange "$2" C I 0 0 <<SAYS
+fm: refused with number $1: $3. $anew
+SAYS
+    try 1 withdraw "$2" new.fms 7 <<SAYS
+fm: refused with number $1: $3. $anew
+SAYS
+}
+damage 1 bad1.fms "bad1.fms has under 8 bytes, less than a table's header"
+damage 1 bad1-empty.fms "bad1-empty.fms has under 8 bytes, less than a table's header"
+damage 2 bad2.fms 'bad2.fms does not begin with the mark FMS, so it is no table of stations'
+damage 3 bad3.fms 'bad3.fms is not of version 1'
+damage 4 bad4.fms 'the sixth byte of bad4.fms is not 0'
+damage 5 bad5.fms 'the header of bad5.fms counts more than 2,000 stations'
+damage 6 bad6.fms 'bad6.fms is not as long as its count of stations asks (8 bytes, and 16 for each): it was cut, or something hangs on'
+damage 7 bad7.fms 'record 1 of bad7.fms, counted from 0, has id 7, which is 0 or not above the one before'
+damage 8 bad8.fms 'record 0 of bad8.fms, counted from 0, has channel 301, outside 201 to 300'
+damage 9 bad9.fms 'record 0 of bad9.fms, counted from 0, has class code 8, over 7'
+damage 10 bad10.fms 'record 0 of bad10.fms, counted from 0, has flags 2, where only 0 and 1 have a meaning'
+damage 11 bad11.fms 'record 0 of bad11.fms, counted from 0, has latitude -270001 seconds, beyond 75 degrees (270000)'
+damage 12 bad12.fms 'record 0 of bad12.fms, counted from 0, has longitude 648001 seconds, beyond 180 degrees (648000)'
+
+# ---- refusals of the question
+for channel in 220 301 0 65535; do
+    try 1 check one.fms "$channel" A II 0 0 <<SAYS
+fm: refused with number 13: channel $channel cannot be asked for. Ask for one of 221 to 300.
+SAYS
+done
+try 1 move one.fms new.fms 8 220 <<'SAYS'
+fm: refused with number 13: channel 220 cannot be asked for. Ask for one of 221 to 300.
+SAYS
+try 1 arrange one.fms C3 i-a 0 0 <<'SAYS'
+fm: refused with number 16: zone I-A does not permit class C3. Zones I and I-A permit A, B1, B; zone II permits A, C3, C2, C1, C0, C.
+SAYS
+for site in '75-00-01N 0' '0 180-00-01W' '2147483647 0' '-2147483648 0' '0 2147483647' '0 -2147483648' '999-59-59S 0'; do
+    # shellcheck disable=SC2086
+    try 1 check one.fms 250 A II $site <<'SAYS'
+fm: refused with number 17: the site is out of range. Latitudes go from 75-00-00S to 75-00-00N, longitudes from 180-00-00W to 180-00-00E.
+SAYS
+done
+try 1 add one.fms new.fms 0 221 A II 0 0 <<'SAYS'
+fm: refused with number 18: 0 is no id for a station. Give an id from 1.
+SAYS
+try 1 add three.fms new.fms 9 221 A II 0 0 <<'SAYS'
+fm: refused with number 19: id 9 is taken by station 9 (channel 220, class C2), record 1 of three.fms counted from 0. Give another id, or withdraw that station first.
+SAYS
+try 1 add one.fms new.fms 9 250 A II 0 3702 <<'SAYS'
+fm: refused with number 20: on channel 250 it would be short to station 7 (channel 250, class A), record 0 of one.fms counted from 0, and perhaps to later ones. ./fm check lists all that are short, ./fm arrange the channels that fit.
+SAYS
+"$fm" add one.fms pair.fms 9 260 A II 0 3702 >/dev/null
+try 1 move pair.fms new.fms 9 250 <<'SAYS'
+fm: refused with number 20: on channel 250 it would be short to station 7 (channel 250, class A), record 0 of pair.fms counted from 0, and perhaps to later ones.
+SAYS
+rm -f pair.fms
+try 1 add full.fms new.fms 2001 250 A II 0 0 <<'SAYS'
+fm: refused with number 21: full.fms already holds 2,000 stations, and no table holds more. Withdraw one first.
+SAYS
+for id in 0 8 4294967295; do
+    try 1 withdraw one.fms new.fms "$id" <<SAYS
+fm: refused with number 23: no station of one.fms has id $id. ./fm show lists the ids.
+SAYS
+done
+try 1 move three.fms new.fms 8 250 <<'SAYS'
+fm: refused with number 25: station 8 (channel 250, class A), record 0 of three.fms counted from 0, is not movable: it is fixed, or on a channel of 220 or below.
+SAYS
+try 1 move three.fms new.fms 9 250 <<'SAYS'
+fm: refused with number 25: station 9 (channel 220, class C2), record 1 of three.fms counted from 0, is not movable: it is fixed, or on a channel of 220 or below.
+SAYS
+try 1 check --raw one.fms 220 A II 0 0 <<'SAYS'
+refused 13 0
+SAYS
+try 1 add three.fms new.fms 9 221 A II 0 0 --raw <<'SAYS'
+refused 19 1
+SAYS
+hold "a refusal is said on the error output" [ -z "$("$fm" check one.fms 220 A II 0 0 2>/dev/null)" ]
+hold "--raw: a refusal is a line of the output" [ "$("$fm" check one.fms 220 A II 0 0 --raw 2>/dev/null)" = 'refused 13 0' ]
+hold "a refusal leaves no table" absent new.fms
+hold "no temporary file is left" [ -z "$(find . -name '.fm-*')" ]
+hold "no table was touched" [ "$(cksum ./*[!g].fms)" = "$before" ]
+
+# ---- writes that fail
+(
+    ulimit -f 1 && "$fm" withdraw full.fms folder/cut.fms 7
+) >said 2>&1 </dev/null
+hold "a cut write: status 3" [ $? -eq 3 ]
+hold "a cut write leaves nothing" only folder
+if [ -c /dev/full ] && [ -w /dev/full ]; then
+    for words in 'check one.fms 250 A II 0 0' 'arrange one.fms A II 0 0' 'check --raw one.fms 250 A II 0 0' 'show one.fms' help; do
+        # shellcheck disable=SC2086
+        "$fm" $words >/dev/full 2>said </dev/null
+        hold "fm $words: status 3 on a full output" [ $? -eq 3 ]
+    done
+    "$fm" withdraw one.fms folder/new.fms 7 2>said >/dev/full </dev/null
+    hold "withdraw: status 3 on a full output" [ $? -eq 3 ]
+    hold "withdraw: a full output is said" grep -q 'fm: folder/new.fms is written, but the answer could not be written out' said
+    hold "withdraw: the table is written all the same" cmp -s folder/new.fms empty.fms
+    rm -f folder/new.fms
+fi
+if [ "$(id -u)" -eq 0 ]; then
+    printf 'fm: read-only folders and unreadable tables skipped, since root may write and read them\n'
+else
+    mkdir closed
+    chmod 555 closed
+    got=$("$fm" withdraw one.fms closed/new.fms 7 2>&1 </dev/null)
+    ended=$?
+    hold "a read-only folder: status 3" [ "$ended" -eq 3 ]
+    case $got in
+    'fm: closed/.fm-'*'.new cannot be made, so closed/new.fms is not written: is the folder open for writing?') pass ;;
+    *) miss "a read-only folder: $got" ;;
+    esac
+    hold "a read-only folder stays as it is" only closed
+    "$fm" check one.fms 250 A II 0 0 >/dev/null 2>&1
+    cp one.fms secret.fms
+    chmod 000 secret.fms
+    try 2 show secret.fms <<'SAYS'
+fm: the table secret.fms cannot be read
+SAYS
+    rm -f secret.fms
+fi
+rm -f said
+
+# ---- from another folder, and through links
+mkdir elsewhere
+ln -s "$root/fm" elsewhere/desk
+ln -s desk elsewhere/desk2
+hold "fm through links" [ "$(cd elsewhere && ./desk2 check ../one.fms 250 A II 0 3703 --raw)" = 'short 0' ]
+hold "fm by the PATH" [ "$(env PATH="$room/elsewhere:$PATH" desk check one.fms 250 A II 0 3703 --raw)" = 'short 0' ]
+hold "fm named to the shell" [ "$(cd "$root" && sh fm check "$room/one.fms" 250 A II 0 3703 --raw)" = 'short 0' ]
+
+# ---- programs that are missing or fail: a copy of fm over programs of this test's own
+mkdir -p other/target/bin tools kit/docs kit/on/x86_64/toolchain/lib kit/on/other/toolchain/bin kit/on/other/toolchain/lib
+cp "$root/fm" other/fm
+fm=$room/other/fm
+for tool in sh awk cat cmp dirname ls mv od printf rm sed tr; do
+    oldifs=$IFS
+    IFS=:
+    for folder in $PATH; do
+        if [ -x "$folder/$tool" ]; then
+            ln -s "$folder/$tool" "tools/$tool"
+            break
+        fi
+    done
+    IFS=$oldifs
+done
+# A script with given lines.
+script() { # FILE LINES
+    rm -f "$1"
+    printf '#!/bin/sh\n%s\n' "$2" >"$1"
+    chmod +x "$1"
+}
+# A program that answers empty input as the proved ones do, and any other with given lines.
+answers() { # NAME LINES
+    script "other/target/bin/$1" "[ -n \"\$(od -An -N 1)\" ] || { echo refused 1 0; exit; }
+cat >/dev/null
+$2"
+}
+script tools/uname 'echo x86_64'
+path=$room/tools
+try 3 check one.fms 250 A II 0 0 <<'SAYS'
+fm: target/bin/fm_check is not built, and there is no rt to build it with
+SAYS
+script tools/rt 'echo "rt: it does not prove"; exit 1'
+try 3 arrange one.fms A II 0 0 <<'SAYS'
+fm: building fm_arrange with rt check fm_arrange; this is done once and takes some minutes
+rt: it does not prove
+fm: rt check fm_arrange did not prove and build target/bin/fm_arrange
+SAYS
+answers fm_arrange 'echo 221 0 0'
+mv other/target/bin/fm_arrange built
+script tools/rt "mv $room/built target/bin/fm_arrange; exit 1"
+try 3 arrange --raw one.fms A II 0 0 <<'SAYS'
+fm: building fm_arrange with rt check fm_arrange; this is done once and takes some minutes
+
+fm: rt check fm_arrange did not prove and build target/bin/fm_arrange
+SAYS
+rm -f other/target/bin/fm_arrange
+answers fm_check 'echo short 0'
+mv other/target/bin/fm_check built
+script tools/rt "[ \"\$*\" = 'check fm_check' ] && mv $room/built target/bin/fm_check"
+try 0 check one.fms 250 A II 0 0 <<'SAYS'
+fm: building fm_check with rt check fm_check; this is done once and takes some minutes
+Nothing is short: channel 250 is acceptable for class A in zone II at 00-00-00N 000-00-00E.
+SAYS
+try 0 check one.fms 250 A II 0 0 --raw <<'SAYS'
+short 0
+SAYS
+for line in 'echo hello' 'echo short 1' 'echo short 0; echo 7 1 2' 'echo short 1; echo 8 1 2' ':' 'echo refused 26 0' 'echo refused 13' 'echo refused x 0'; do
+    answers fm_check "$line"
+    try 3 check one.fms 250 A II 0 0 <<'SAYS'
+fm: fm_check gave something that is no answer
+SAYS
+done
+answers fm_check 'exit 7'
+try 3 check one.fms 250 A II 0 0 <<'SAYS'
+fm: fm_check ended with status 7 and gave no answer
+SAYS
+for line in 'echo hello' 'echo 220 0 0' 'echo 301 0 0' 'echo 250 8 251'; do
+    answers fm_arrange "$line"
+    try 3 arrange one.fms A II 0 0 <<'SAYS'
+fm: fm_arrange gave something that is no answer
+SAYS
+done
+answers fm_arrange ':'
+hold "arrange: all shut" [ "$(PATH=$path "$fm" arrange one.fms A II 0 0 | sed -n 2p)" = '0 are free, 0 open by one move, 80 are shut.' ]
+hold "arrange: all shut, raw" [ -z "$(PATH=$path "$fm" arrange --raw one.fms A II 0 0)" ]
+answers fm_arrange 'echo 221 7 222; echo 300 0 0'
+hold "arrange: one of each" [ "$(PATH=$path "$fm" arrange one.fms A II 0 0 | sed -n 2p)" = '1 is free, 1 opens by one move, 78 are shut.' ]
+answers fm_check 'echo refused 14 0'
+try 1 check one.fms 250 A II 0 0 <<'SAYS'
+fm: refused with number 14: the class has a code over 7. Give one of A, B1, B, C3, C2, C1, C0, C.
+SAYS
+answers fm_check 'echo refused 15 0'
+try 1 check one.fms 250 A II 0 0 <<'SAYS'
+fm: refused with number 15: the zone has a code that is not 1, 2 or 3. Give I, I-A or II.
+SAYS
+answers fm_check 'echo refused 22 6003'
+try 1 check one.fms 250 A II 0 0 <<'SAYS'
+fm: refused with number 22: the answer needs room for 6003, more than the program has. This should not happen: report it.
+SAYS
+answers fm_check 'echo refused 24 0'
+try 1 check one.fms 250 A II 0 0 <<'SAYS'
+fm: refused with number 24: the sites are more than 475 km apart, where the distance method of 73.208 does not hold.
+SAYS
+answers fm_change 'printf FMS'
+try 3 withdraw one.fms folder/new.fms 7 <<'SAYS'
+fm: the new table could not be written whole, and folder/new.fms is not there: is the disk full?
+SAYS
+answers fm_change 'echo hello'
+try 3 withdraw one.fms folder/new.fms 7 <<'SAYS'
+fm: fm_change gave something that is no answer
+SAYS
+try 3 show one.fms <<'SAYS'
+fm: fm_change gave something that is no answer
+SAYS
+answers fm_change 'exit 9'
+try 3 withdraw one.fms folder/new.fms 7 <<'SAYS'
+fm: fm_change ended with status 9, and folder/new.fms is not written
+SAYS
+hold "a failed program leaves nothing" only folder
+
+# A name that is taken while the program runs, and a temporary name that is taken.
+script other/target/bin/fm_change "case \$(od -An -v -tu1 -N 5 | tr -s ' \n' ' ') in
+'') echo refused 1 0 ;;
+' 119 0 0 0 0 ') echo refused 23 0 ;;
+*) echo taken >$room/folder/new.fms; cat $room/empty.fms ;;
+esac"
+try 2 withdraw one.fms folder/new.fms 7 <<'SAYS'
+fm: folder/new.fms exists already, and nothing is written over: name a file that does not exist
+SAYS
+hold "a name taken meanwhile keeps its file" [ "$(cat folder/new.fms)" = taken ]
+hold "a name taken meanwhile: nothing else is left" only folder new.fms
+rm -f folder/new.fms
+# shellcheck disable=SC2016
+PATH=$path sh -c 'echo mine >"folder/.fm-$$.new"; exec "$0" withdraw one.fms folder/new.fms 7' "$fm" 2>/dev/null </dev/null
+hold "a temporary name that is taken: status 3" [ $? -eq 3 ]
+hold "a temporary name that is taken keeps its file" [ "$(cat folder/.fm-*.new)" = mine ]
+rm -f folder/.fm-*.new
+
+# The bytes of each class, zone and number.
+script other/target/bin/fm_check "seen=\$(od -An -v -tu1 -N 12 | tr -s ' \n' ' ')
+[ -n \"\$seen\" ] || { echo refused 1 0; exit; }
+printf '%s' \"\$seen\" >$room/seen
+echo short 0"
+sees() { # BYTES WORDS
+    want=$1
+    shift
+    PATH=$path "$fm" check one.fms "$@" >/dev/null </dev/null
+    hold "fm check one.fms $*: the bytes are $(cat seen)" [ "$(cat seen)" = " $want " ]
+}
+code=0
+for class in A B1 B C3 C2 C1 C0 C; do
+    sees "0 250 $code 3 0 0 0 0 0 0 0 0" 250 "$class" II 0 0
+    code=$((code + 1))
+done
+sees '0 250 0 1 0 0 0 0 0 0 0 0' 250 A I 0 0
+sees '0 250 0 2 0 0 0 0 0 0 0 0' 250 A I-A 0 0
+sees '255 255 0 3 127 255 255 255 128 0 0 0' 65535 A II 2147483647 -2147483648
+sees '0 0 0 3 0 2 61 6 255 251 239 147' 0 A II 40-44-54N 073-59-09W
+sees '1 44 0 3 255 255 255 255 0 0 0 1' 300 A II 00-00-01S 000-00-01E
+rm -f seen
+
+# ---- programs that do not run by themselves: the toolchain's loader, and its emulator on another machine
+script other/target/bin/fm_check 'exit 127'
+rm -f tools/rt
+try 3 check one.fms 250 A II 0 0 <<'SAYS'
+fm: fm_check does not run by itself on this machine (x86_64), and there is no rt whose toolchain could run it
+SAYS
+script tools/rt "[ \"\$1\" = doc ] && echo $room/kit/docs/START-HERE.md"
+try 3 check one.fms 250 A II 0 0 <<SAYS
+fm: the toolchain at $room/kit/on/x86_64/toolchain cannot run fm_check on this machine (x86_64)
+SAYS
+script kit/on/x86_64/toolchain/lib/ld-linux-x86-64.so.2 "[ \"\$*\" = '--library-path $room/kit/on/x86_64/toolchain/lib $room/other/target/bin/fm_check' ] && echo short 0"
+try 0 check one.fms 250 A II 0 0 --raw <<'SAYS'
+short 0
+SAYS
+script tools/uname 'echo other'
+: >kit/on/other/toolchain/lib/ld-linux-x86-64.so.2
+script kit/on/other/toolchain/bin/qemu-x86_64 "[ \"\$*\" = '$room/kit/on/other/toolchain/lib/ld-linux-x86-64.so.2 --library-path $room/kit/on/other/toolchain/lib $room/other/target/bin/fm_check' ] && echo short 0"
+try 0 check one.fms 250 A II 0 0 --raw <<'SAYS'
+short 0
+SAYS
+
+printf 'fm: %s passed, %s failed\n' "$passed" "$failed"
+[ "$failed" -eq 0 ]
