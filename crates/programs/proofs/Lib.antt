@@ -2,3 +2,4 @@ pub mod Inputs
 pub mod Decimals
 pub mod Texts
 pub mod Rooms
+pub mod Fitting

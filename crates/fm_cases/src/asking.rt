@@ -1,0 +1,199 @@
+// Made questions.
+use super::chance::below;
+use super::chance::once_in;
+use super::limits::at_limit;
+use super::question::ADD;
+use super::question::Question;
+use super::tables::any_site;
+use super::words::Site;
+ghost use Prim.Native.Nat.{_≤_, _<_};
+
+// A channel that cannot be asked.
+fn other_channel(state: &mut u64) -> u32 {
+    match below(state, 6) {
+        0 => 220,
+        1 => 301,
+        2 => 0,
+        3 => 65_786,
+        4 => 4_294_967_295,
+        _ => 201 + below(state, 20),
+    }
+}
+
+// A channel, out of range once in so many times.
+fn asked_channel(state: &mut u64, odds: u32) -> u32
+    requires { ⌜ 0 < odds ⌝ }
+{
+    if once_in(state, odds) {
+        return other_channel(state);
+    }
+    221 + below(state, 80)
+}
+
+// A class that is none.
+fn other_class(state: &mut u64) -> u32 {
+    match below(state, 3) {
+        0 => 8,
+        1 => 256,
+        _ => 4_294_967_295,
+    }
+}
+
+// A class that a zone permits.
+fn permitted(state: &mut u64, zone: u32) -> u32 {
+    if zone <= 2 {
+        return below(state, 3);
+    }
+    let c = below(state, 6);
+    if c == 0 { 0 } else { c + 2 }
+}
+
+// A class for a zone, none or not permitted once in so many times.
+fn asked_class(state: &mut u64, zone: u32, odds: u32) -> u32
+    requires { ⌜ 0 < odds ⌝ }
+{
+    if once_in(state, odds) {
+        return other_class(state);
+    }
+    if once_in(state, odds) {
+        return below(state, 8);
+    }
+    permitted(state, zone)
+}
+
+// A zone, none once in so many times.
+fn asked_zone(state: &mut u64, zone: u32, odds: u32) -> u32
+    requires { ⌜ 0 < odds ⌝ }
+{
+    if !once_in(state, odds) {
+        return zone;
+    }
+    match below(state, 4) {
+        0 => 0,
+        1 => 4,
+        2 => 257,
+        _ => 4_294_967_295,
+    }
+}
+
+// A site that is out of range.
+fn other_site(state: &mut u64) -> Site {
+    match below(state, 6) {
+        0 => Site {
+            lat: 270_001,
+            lon: 0,
+        },
+        1 => Site {
+            lat: 4_294_697_295,
+            lon: 648_000,
+        },
+        2 => Site {
+            lat: 0,
+            lon: 648_001,
+        },
+        3 => Site {
+            lat: 270_000,
+            lon: 4_294_319_295,
+        },
+        4 => Site {
+            lat: 0x8000_0000,
+            lon: 0x7FFF_FFFF,
+        },
+        _ => Site {
+            lat: 0,
+            lon: 0x8000_0000,
+        },
+    }
+}
+
+// A site, out of range once in so many times.
+fn asked_site(state: &mut u64, odds: u32) -> Site
+    requires { ⌜ 0 < odds ⌝ }
+{
+    if once_in(state, odds) {
+        return other_site(state);
+    }
+    any_site(state)
+}
+
+// A second site: at a limit from the first, or any.
+fn other_end(state: &mut u64, from: Site, odds: u32) -> Site
+    requires { ⌜ 0 < odds ⌝ }
+{
+    if once_in(state, 4) {
+        return asked_site(state, odds);
+    }
+    let r = below(state, 480);
+    at_limit(state, from, r)
+}
+
+// An id: one of a table of n records whose ids rise by 3 from a number, to add one beside it; or 0, or any.
+fn asked_id(state: &mut u64, kind: u32, start: u32, n: u32) -> u32
+    requires { ⌜ n ≤ 2001 ⌝ }
+{
+    if once_in(state, 16) {
+        return 0;
+    }
+    if once_in(state, 8) {
+        return below(state, 4_294_967_295);
+    }
+    let id = std::num::wrapping_add_u32(start, 3 * below(state, n + 1));
+    if kind != ADD {
+        return id;
+    }
+    std::num::wrapping_sub_u32(std::num::wrapping_add_u32(id, 1), below(state, 3))
+}
+
+// The last channel: the same, the last of all, one behind, or any.
+fn asked_last(state: &mut u64, first: u32, odds: u32) -> u32
+    requires { ⌜ 0 < odds ⌝ }
+{
+    match below(state, 4) {
+        0 => first,
+        1 => 300,
+        2 => std::num::wrapping_add_u32(first, below(state, 5)),
+        _ => asked_channel(state, odds),
+    }
+}
+
+// The first id of a table.
+pub(crate) fn first_id(state: &mut u64) -> u32 {
+    match below(state, 6) {
+        0 => 65_530,
+        1 => 16_777_210,
+        2 => 2_147_483_640,
+        3 => 4_294_967_200,
+        4 => 1 + below(state, 300),
+        _ => 1,
+    }
+}
+
+// Once in how many times a number of a question is out of range.
+fn odds_of(state: &mut u64) -> u32
+    ensures { λ r. ⌜ 0 < r ⌝ }
+{
+    if once_in(state, 12) { 2 } else { 40 }
+}
+
+// A question of a kind about a table of n records whose ids start at a number.
+pub(crate) fn made_question(state: &mut u64, kind: u32, start: u32, n: u32) -> Question
+    requires { ⌜ n ≤ 2001 ⌝ }
+{
+    let odds = odds_of(state);
+    let zone = 1 + below(state, 3);
+    let from = asked_site(state, odds);
+    let to = other_end(state, from, odds);
+    let channel = asked_channel(state, odds);
+    Question {
+        kind,
+        id: asked_id(state, kind, start, n),
+        channel,
+        last: asked_last(state, channel, odds),
+        class: asked_class(state, zone, odds),
+        zone: asked_zone(state, zone, odds),
+        lat: from.lat,
+        lon: from.lon,
+        lat2: to.lat,
+        lon2: to.lon,
+    }
+}

@@ -1,0 +1,198 @@
+// Made tables around the site, channel and class that are asked.
+use super::chance::below;
+use super::chance::once_in;
+use super::image::Record;
+use super::image::put_header;
+use super::image::put_record;
+use super::image::start_of;
+use super::limits::at_limit;
+use super::limits::separation;
+use super::words::LATITUDES;
+use super::words::LONGITUDES;
+use super::words::Site;
+use super::words::east;
+use super::words::north;
+use super::words::site_at;
+ghost use Prim.Native.Nat.{_≤_, _<_};
+
+// Records at the limits of what is asked and of each other.
+pub(crate) const AT_LIMITS: u32 = 0;
+
+// Records anywhere within some hundred km.
+pub(crate) const SCATTERED: u32 = 1;
+
+// Records on channels at or below 220 only.
+pub(crate) const LOW: u32 = 2;
+
+// An end of a range, or any place within it.
+fn place_within(state: &mut u64, most: u32) -> u32
+    requires { ⌜ most ≤ 2000000 ⌝ }
+    ensures { λ r. ⌜ r ≤ most ⌝ }
+{
+    if once_in(state, 8) {
+        return 0;
+    }
+    if once_in(state, 8) {
+        return most;
+    }
+    below(state, most + 1)
+}
+
+// A site: the crossing of equator and meridian, an end of a range, or any other.
+pub(crate) fn any_site(state: &mut u64) -> Site {
+    if once_in(state, 4) {
+        return site_at(270_000, 648_000);
+    }
+    site_at(
+        place_within(state, LATITUDES),
+        place_within(state, LONGITUDES),
+    )
+}
+
+// A place within a range, at most reach away from another.
+fn place_near(state: &mut u64, from: u32, reach: u32, most: u32) -> u32
+    requires { ⌜ (from ≤ 2000000) × (reach ≤ 100000) ⌝ }
+{
+    let up = from + below(state, 2 * reach + 1);
+    if up < reach {
+        return 0;
+    }
+    let near = up - reach;
+    if most < near { most } else { near }
+}
+
+// A channel difference: one with a requirement, or one beside such.
+fn difference(state: &mut u64) -> u32
+    ensures { λ r. ⌜ r ≤ 55 ⌝ }
+{
+    match below(state, 10) {
+        0 | 1 => 0,
+        2 => 1,
+        3 => 2,
+        4 => 3,
+        5 => 4,
+        6 => 52,
+        7 => 53,
+        8 => 54,
+        _ => 55,
+    }
+}
+
+// Any channel of a record.
+fn any_channel(state: &mut u64) -> u32
+    ensures { λ r. ⌜ r ≤ 300 ⌝ }
+{
+    201 + below(state, 100)
+}
+
+// A record's channel near another; any where that falls out of range.
+fn near_channel(state: &mut u64, channel: u32) -> u32 {
+    if once_in(state, 4) {
+        return any_channel(state);
+    }
+    let d = difference(state);
+    let near = if once_in(state, 2) {
+        std::num::wrapping_add_u32(channel, d)
+    } else {
+        std::num::wrapping_sub_u32(channel, d)
+    };
+    if near < 201 {
+        return any_channel(state);
+    }
+    if 300 < near {
+        return any_channel(state);
+    }
+    near
+}
+
+// Flags: one record in four is fixed.
+fn any_flags(state: &mut u64) -> u32 {
+    if once_in(state, 4) { 1 } else { 0 }
+}
+
+// A record at the same site as another, at the limit from it, or some km away.
+fn record_at_limits(state: &mut u64, id: u32, from: Record) -> Record {
+    let class = below(state, 8);
+    let channel = near_channel(state, from.channel);
+    let r = separation(from.channel, from.class, channel, class);
+    let beside = from.site;
+    let km = below(state, 300);
+    let where_to = match below(state, 8) {
+        0 => beside,
+        1 => any_site(state),
+        2 => site_at(
+            place_near(state, north(beside), 3_000, LATITUDES),
+            place_near(state, east(beside), 6_000, LONGITUDES),
+        ),
+        3 => at_limit(state, beside, km),
+        _ => at_limit(state, beside, r),
+    };
+    Record {
+        id,
+        channel,
+        class,
+        flags: any_flags(state),
+        site: where_to,
+    }
+}
+
+// A record within some hundred km of another.
+fn scattered_record(state: &mut u64, id: u32, from: Record, style: u32) -> Record {
+    let beside = from.site;
+    let channel = if style == LOW {
+        201 + below(state, 20)
+    } else {
+        any_channel(state)
+    };
+    Record {
+        id,
+        channel,
+        class: below(state, 8),
+        flags: any_flags(state),
+        site: site_at(
+            place_near(state, north(beside), 20_000, LATITUDES),
+            place_near(state, east(beside), 40_000, LONGITUDES),
+        ),
+    }
+}
+
+// A record of a style.
+fn made_record(state: &mut u64, id: u32, from: Record, style: u32) -> Record {
+    if style == AT_LIMITS {
+        return record_at_limits(state, id, from);
+    }
+    scattered_record(state, id, from, style)
+}
+
+// The first of two records, or once in three times the second.
+fn either(state: &mut u64, a: Record, b: Record) -> Record {
+    if once_in(state, 3) {
+        return b;
+    }
+    a
+}
+
+// Writes a table of n records whose ids rise by 3 from that of what is asked, and gives its length.
+pub(crate) fn made_table(
+    state: &mut u64,
+    asked: Record,
+    n: usize,
+    style: u32,
+    table: &mut [u8],
+) -> usize
+    requires { ⌜ n ≤ 2001 ⌝ }
+    ensures { λ r. ⌜ r ≤ 32024 ⌝ }
+{
+    put_header(table, n as u32);
+    let mut from = asked;
+    let mut id = asked.id;
+    let mut i: usize = 0;
+    while i < n {
+        let record = made_record(state, id, from, style);
+        put_record(table, i, record);
+        from = either(state, from, record);
+        id = std::num::wrapping_add_u32(id, 3);
+        i += 1;
+    }
+    start_of(n)
+}

@@ -1,0 +1,130 @@
+// How often each question was answered in each way, and the digest of all answers and buffers.
+use super::chance::mixed;
+use super::question::ADD;
+use super::question::ARRANGE;
+use super::question::CHECK;
+use super::question::DISTANCE;
+use super::question::MOVE;
+use super::question::READ;
+use super::question::WITHDRAW;
+ghost use Prim.Native.Nat.{_≤_, _<_};
+
+// Mixes a number into the digest.
+pub(crate) fn mix(digest: &mut u64, value: u64) {
+    *digest = std::num::wrapping_add_u64(mixed(*digest), value);
+}
+
+// The refusal's number of an answer, 0 where it is granted.
+pub(crate) fn number_of(answer: u64) -> u64 {
+    answer / 4_294_967_296
+}
+
+// The low half of an answer.
+pub(crate) fn extra_of(answer: u64) -> u64
+    ensures { λ r. ⌜ r < 4294967296 ⌝ }
+{
+    answer % 4_294_967_296
+}
+
+// Where the count of a question's answers with a number stands: 26 numbers, 0 where it is granted, for each of seven questions.
+fn place(kind: u32, number: u64) -> usize {
+    ((kind % 7) * 26) as usize + (number % 26) as usize
+}
+
+// Counts an answer.
+pub(crate) fn note(counts: &mut [u64], kind: u32, answer: u64) {
+    let at = place(kind, number_of(answer));
+    if at < counts.len() {
+        counts[at] = std::num::wrapping_add_u64(counts[at], 1);
+    }
+}
+
+// How often a question was answered with a number.
+fn count_of(counts: &[u64], kind: u32, number: u64) -> u64 {
+    let at = place(kind, number);
+    if at < counts.len() {
+        return counts[at];
+    }
+    0
+}
+
+// Whether a question other than read and distance can be refused with a number from 13 on.
+fn can_refuse(kind: u32, number: u64) -> bool {
+    match number {
+        13 => kind != WITHDRAW,
+        14 | 15 | 16 | 17 => kind != WITHDRAW && kind != MOVE,
+        18 | 19 | 21 => kind == ADD,
+        20 => kind == ADD || kind == MOVE,
+        22 => true,
+        23 => kind == WITHDRAW || kind == MOVE,
+        25 => kind == MOVE,
+        _ => false,
+    }
+}
+
+// Whether a question can be answered with a number.
+fn possible(kind: u32, number: u64) -> bool {
+    if number == 0 {
+        return true;
+    }
+    if kind == DISTANCE {
+        return number == 17 || number == 24;
+    }
+    if number <= 12 {
+        return true;
+    }
+    if kind == READ {
+        return false;
+    }
+    can_refuse(kind, number)
+}
+
+// Writes one count, `-` where the question is never answered so, and gives 1 where it can be and never was.
+fn print_count(counts: &[u64], kind: u32, number: u64) -> u64
+    ensures { λ r. ⌜ r ≤ 1 ⌝ }
+{
+    io::write_all(1, b" ");
+    if !possible(kind, number) {
+        io::write_all(1, b"-");
+        return 0;
+    }
+    let count = count_of(counts, kind, number);
+    io::print_decimal(1, count);
+    if count == 0 {
+        return 1;
+    }
+    0
+}
+
+// Writes the counts of one number, and gives how many questions can be answered so and never were.
+fn print_line(counts: &[u64], number: u64) -> u64
+    ensures { λ r. ⌜ r ≤ 7 ⌝ }
+{
+    io::print_decimal(1, number);
+    let a = print_count(counts, READ, number);
+    let b = print_count(counts, DISTANCE, number);
+    let c = print_count(counts, ADD, number);
+    let d = print_count(counts, WITHDRAW, number);
+    let e = print_count(counts, MOVE, number);
+    let f = print_count(counts, CHECK, number);
+    let g = print_count(counts, ARRANGE, number);
+    io::write_all(1, b"\n");
+    a + b + c + d + e + f + g
+}
+
+// Writes all counts, and how many of the possible answers never came.
+pub(crate) fn print_counts(counts: &[u64]) {
+    io::write_all(
+        1,
+        b"number: read distance add withdraw move check arrange\n",
+    );
+    let mut missing: u64 = 0;
+    let mut number: u64 = 0;
+    while number < 26 {
+        missing += print_line(counts, number);
+        number += 1;
+    }
+    io::write_all(1, b"possible answers that never came: ");
+    io::print_decimal(1, missing);
+    io::write_all(1, b"\n");
+}

@@ -1,0 +1,46 @@
+// Coordinates as 32-bit words in two's complement, and as seconds from the southern and the western end of their ranges.
+ghost use Prim.Native.Nat.{_≤_};
+
+// Seconds of latitude from one end of the range to the other.
+pub(crate) const LATITUDES: u32 = 540_000;
+
+// Seconds of longitude from one end of the range to the other.
+pub(crate) const LONGITUDES: u32 = 1_296_000;
+
+// A site in two words.
+pub(crate) struct Site {
+    pub(crate) lat: u32,
+    pub(crate) lon: u32,
+}
+
+// The site so many seconds north of the southern and east of the western end.
+pub(crate) fn site_at(north: u32, east: u32) -> Site {
+    Site {
+        lat: std::num::wrapping_sub_u32(north, 270_000),
+        lon: std::num::wrapping_sub_u32(east, 648_000),
+    }
+}
+
+// Seconds north of the southern end, the northern end where the latitude is out of range.
+pub(crate) fn north(s: Site) -> u32
+    ensures { λ r. ⌜ r ≤ 540000 ⌝ }
+{
+    let seconds = std::num::wrapping_add_u32(s.lat, 270_000);
+    if seconds <= LATITUDES {
+        seconds
+    } else {
+        LATITUDES
+    }
+}
+
+// Seconds east of the western end, the eastern end where the longitude is out of range.
+pub(crate) fn east(s: Site) -> u32
+    ensures { λ r. ⌜ r ≤ 1296000 ⌝ }
+{
+    let seconds = std::num::wrapping_add_u32(s.lon, 648_000);
+    if seconds <= LONGITUDES {
+        seconds
+    } else {
+        LONGITUDES
+    }
+}
