@@ -165,60 +165,65 @@ fn short_as(
     rows_as(q, &table, 3, 0, row, mine, other, counts, digest)
 }
 
-// Whether the separation of a class to itself is the paper's for a channel's difference from 240.
-fn separation_as(
-    class: u32,
+// A channel, and the separation that the paper has for its difference from 240.
+struct Column {
     channel: u32,
     r: u32,
-    mine: &mut [u32],
-    other: &mut [u32],
-    counts: &mut [u64],
-    digest: &mut u64,
-) -> bool {
-    let row = Row { a: 7, b: 0, c: r };
-    short_as(240, class, channel, 0, row, mine, other, counts, digest)
 }
 
-// Whether the separations of a class to itself are the paper's for the differences 0, 1 and 2.
-fn near_columns_as(
+// Whether the separation of a class to itself is the paper's.
+fn separation_as(
     class: u32,
-    r0: u32,
-    r1: u32,
-    r2: u32,
+    column: Column,
     mine: &mut [u32],
     other: &mut [u32],
     counts: &mut [u64],
     digest: &mut u64,
 ) -> bool {
-    if !separation_as(class, 240, r0, mine, other, counts, digest) {
-        return false;
-    }
-    if !separation_as(class, 241, r1, mine, other, counts, digest) {
-        return false;
-    }
-    separation_as(class, 242, r2, mine, other, counts, digest)
+    let row = Row {
+        a: 7,
+        b: 0,
+        c: column.r,
+    };
+    short_as(
+        240,
+        class,
+        column.channel,
+        0,
+        row,
+        mine,
+        other,
+        counts,
+        digest,
+    )
 }
 
-// Whether they are for the differences 3, 53 and 54.
-fn far_columns_as(
+// Whether three of them are.
+fn three_as(
     class: u32,
-    r2: u32,
-    r3: u32,
+    one: Column,
+    two: Column,
+    three: Column,
     mine: &mut [u32],
     other: &mut [u32],
     counts: &mut [u64],
     digest: &mut u64,
 ) -> bool {
-    if !separation_as(class, 237, r2, mine, other, counts, digest) {
+    if !separation_as(class, one, mine, other, counts, digest) {
         return false;
     }
-    if !separation_as(class, 293, r3, mine, other, counts, digest) {
+    if !separation_as(class, two, mine, other, counts, digest) {
         return false;
     }
-    separation_as(class, 294, r3, mine, other, counts, digest)
+    separation_as(class, three, mine, other, counts, digest)
 }
 
-// Whether the four separations of a class to itself are the paper's.
+// The channel at a difference from 240, with a separation.
+fn column_at(channel: u32, r: u32) -> Column {
+    Column { channel, r }
+}
+
+// Whether the four separations of a class to itself are the paper's, for the differences 0, 1, 2 and 3, 53, 54.
 fn columns_as(
     class: u32,
     r0: u32,
@@ -230,10 +235,29 @@ fn columns_as(
     counts: &mut [u64],
     digest: &mut u64,
 ) -> bool {
-    if !near_columns_as(class, r0, r1, r2, mine, other, counts, digest) {
+    let near = three_as(
+        class,
+        column_at(240, r0),
+        column_at(241, r1),
+        column_at(242, r2),
+        mine,
+        other,
+        counts,
+        digest,
+    );
+    if !near {
         return false;
     }
-    far_columns_as(class, r2, r3, mine, other, counts, digest)
+    three_as(
+        class,
+        column_at(237, r2),
+        column_at(293, r3),
+        column_at(294, r3),
+        mine,
+        other,
+        counts,
+        digest,
+    )
 }
 
 // Whether the four separations of A to A and of C to C are the paper's.

@@ -1,21 +1,19 @@
--- Every answer fits the buffer that a program lends for it, so that 22 cannot occur; and what is refused for one new
--- channel is refused for all. Assumes nothing.
-use mathlib.Core.Path.{_≡_, refl, sym, ap, _∙_, subst}
+-- Every answer fits the buffer that a program lends for it, so that 22 cannot occur. Assumes nothing.
+use mathlib.Core.Path.{_≡_, refl, sym, ap, _∙_}
 use mathlib.Core.Bool.{Bool, true, false, cond, true≢false}
-use mathlib.Core.List.{List, [], _∷_, _++_, map, append-nil}
-use Prim.Native.Nat.{ℕ, zero, suc, _+_, _-_, _*_, _≤_, _<_}
+use mathlib.Core.List.{List, [], _∷_, map, append-nil}
+use Prim.Native.Nat.{ℕ, zero, suc, _+_, _-_, _≤_, _<_}
 use native.Mathlib.Decide.{ℕ-discrete}
 use native.Mathlib.Omega.{arith}
 use lib.Dec.{ltb, eqb}
 use lib.IntN.{ℤ}
-use lib.ListN.{length, drop, length-append, length-map}
-use borrow.Author.Tests.{ltb-true, le-ltb}
+use lib.ListN.{length, drop, length-map}
+use borrow.Author.Tests.{ltb-true}
 use Rattle.ground.specs.Guard.{given}
 use Rattle.ground.specs.Lists.{span, each, keep}
 use Rattle.ground.specs.Rows.{Row, row, flat}
 use Rattle.ground.proofs.Guards.{and-was}
-use Rattle.ground.proofs.Spans.{length-span, each-cong, each-single, keep-none}
-use Rattle.ground.proofs.Writes.{flat-each}
+use Rattle.ground.proofs.Spans.{length-span, each-single, keep-none}
 use Rattle.wire.specs.Be.{be}
 use Rattle.refusals.specs.declared.Refusal.{Refusal}
 use Rattle.stations.specs.Version.{limit}
@@ -32,15 +30,14 @@ use Rattle.stations.proofs.Back.{length-encode}
 use Rattle.stations.proofs.Fine.{fine-at}
 use Rattle.spacing.specs.Pair.{Assignment}
 use Rattle.survey.specs.Ways.{everyRecord, blocks}
-use Rattle.desk.specs.Answers.{Outcome, grant, deny, onTable, onAsked}
-use Rattle.desk.specs.Asked.{outside, placeFault, askedFault}
+use Rattle.desk.specs.Answers.{grant, deny, onTable, onAsked}
+use Rattle.desk.specs.Asked.{askedFault}
 use Rattle.checks.specs.Check.{asked, shortPositions, rowOf, shortRows, checkedFor}
 use Rattle.checks.proofs.Listing.{length-flat}
 use Rattle.arrangements.specs.Arrange.{Scene, scene, clear, allowed, moves, arranged, arrangements, arrangedFor}
 use Rattle.arrangements.specs.Meaning.{Clear}
-use Rattle.arrangements.proofs.Single.{First}
 use Rattle.arrangements.proofs.Tallies.{Tally, nobody, lone, several, tally}
-use Rattle.arrangements.proofs.Movers.{allowed-is, not-clear, LoneBlocker, not-allowed}
+use Rattle.arrangements.proofs.Movers.{allowed-is, not-clear, not-allowed}
 use Rattle.changes.specs.Changes.{Change, add, withdraw, move, Decision, allow, refuse, entered, decide, written, changedFor}
 use Rattle.changes.proofs.Cuts.{length-insert, length-remove, length-rechannel}
 use Rattle.changes.proofs.Grants.{added, withdrawn, moved}
@@ -48,7 +45,7 @@ use Rattle.programs.specs.Asking.{endsEarly, past, proposalOf, wantedOf,
 
 -- ---- the way to a granted answer
 
-never : (f : Refusal) (vs : List ℕ) → deny f ≡ grant vs → ⊥
+pub never : (f : Refusal) (vs : List ℕ) → deny f ≡ grant vs → ⊥
 never f vs e = let z : _≡_ {A = ℕ} 0 1 = cc in omega arith
 
 granted-by : (b : Bool) (j : Judged) (v : Verdict) (xs vs : List ℕ) → cond b endsEarly (onTable j (onAsked v (grant xs))) ≡ grant vs → (n : ℕ) × (j ≡ Table n) × (xs ≡ vs)
@@ -158,7 +155,7 @@ module _ (t : Scene) (c : ℕ) where
       go false e (several a b l f g h) = one a l (f .hit l) (not-clear t c e)
 
 -- one new channel, asked for alone
-one-channel : (t : Scene) (c : ℕ) → arrangements t c c ≡ arranged t c
+pub one-channel : (t : Scene) (c : ℕ) → arrangements t c c ≡ arranged t c
 unfolding arrangements span each
 one-channel t c =
     let e : suc c - c ≡ 1 = omega arith in
@@ -189,33 +186,6 @@ arrange-fits channel input vs e =
     let w = granted-way 10 input (judged s) v xs vs e in
     let t = whole s (w .0) (w .1) in
     omega (arith, few-arranged s (count s) (q .class) (q .latitude) (q .longitude) channel (w .1 ∙ ap Table (sym (t .counted))), ap length (w .2))
-
--- the new channels from 221 to 300, asked for one at a time, have the rows of the whole range
-pub one-at-a-time : (t : Scene) → flat (arrangements t 221 300) ≡ each (λ c. flat (arrangements t c c)) (span 221 80)
-unfolding arrangements
-one-at-a-time t = flat-each (arranged t) (span 221 80) ∙ each-cong _ _ 80 221 (λ c lo hi. sym (ap flat (one-channel t c)))
-
--- ---- what is refused for one new channel is refused for every one
-
-asked-in : (c class zone : ℕ) (lat lon : ℤ) → 221 ≤ c → c ≤ 300 → askedFault c c class zone lat lon ≡ placeFault class zone lat lon
-unfolding askedFault given
-asked-in c class zone lat lon lo hi = rw (le-ltb c 221 lo, le-ltb 300 c hi, le-ltb c c (omega arith))
-
-refused-by : (b : Bool) (j : Judged) (v : Verdict) (xs ys : List ℕ) (f : Refusal) → cond b endsEarly (onTable j (onAsked v (grant xs))) ≡ deny f → cond b endsEarly (onTable j (onAsked v (grant ys))) ≡ deny f
-refused-by true j v xs ys f e = e
-refused-by false (Refused′ g) v xs ys f e = e
-refused-by false (Table n) (Faulty g) xs ys f e = e
-refused-by false (Table n) Sound xs ys f e = absurd (never f xs (sym e))
-
-pub alike : (c d : ℕ) (input : List ℕ) (f : Refusal) → 221 ≤ c → c ≤ 300 → 221 ≤ d → d ≤ 300 → arrangeInput c input ≡ deny f → arrangeInput d input ≡ deny f
-unfolding arrangeInput arrangedFor past given
-alike c d input f lo hi lo′ hi′ e =
-    let s = drop 10 input in
-    let q = wantedOf c input in
-    let rows : ℕ → List ℕ = λ x. flat (arrangements (scene everyRecord s (count s) (q .class) (q .latitude) (q .longitude)) x x) in
-    rw (asked-in d (q .class) (q .zone) (q .latitude) (q .longitude) lo′ hi′)
-    (refused-by (ltb (length input) 10) (judged s) (placeFault (q .class) (q .zone) (q .latitude) (q .longitude)) (rows c) (rows d) f
-    (rw (asked-in c (q .class) (q .zone) (q .latitude) (q .longitude) lo hi) at e))
 
 -- ---- Add, Withdraw, Move: the image of at most 2,000 stations
 

@@ -3,3 +3,4 @@ pub mod Decimals
 pub mod Texts
 pub mod Rooms
 pub mod Fitting
+pub mod OneByOne
