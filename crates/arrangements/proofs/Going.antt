@@ -21,12 +21,12 @@ use Rattle.survey.specs.Marks.{many, seen, Marked}
 use Rattle.arrangements.specs.Arrange.{Scene, scene, allowed, arrangements}
 use Rattle.ground.specs.Lists.{span, each}
 use Rattle.ground.specs.Rows.{flat}
-use Rattle.arrangements.specs.Planning.{place, channelRows, Lone, Mark, Marks, Rowed, Kept, Down, Turned, Planned, goes, goesIn}
+use Rattle.arrangements.specs.Planning.{start, place, channelRows, Lone, Mark, Marks, Rowed, Kept, Down, Turned, Planned, goes, goesIn}
 use Rattle.arrangements.proofs.Tallies.{tally, mark-of}
 use Rattle.arrangements.proofs.Unique.{by-kept, rows-all}
 
-pub rowed-as : {f g : ℕ → Bool} {c : ℕ} {entry exit : List Bool} → ((m : ℕ) → f m ≡ g m) → Rowed f c entry exit → Rowed g c entry exit
-rowed-as e r = record { long = r .long; here = λ m lo hi. r .here m lo hi ∙ e m; other = r .other }
+pub rowed-as : {f g : ℕ → Bool} {first c : ℕ} {entry exit : List Bool} → ((m : ℕ) → f m ≡ g m) → Rowed f first c entry exit → Rowed g first c entry exit
+rowed-as e r = record { here = λ m lo hi. r .here m lo hi ∙ e m; other = r .other }
 
 pub goes-in : (look : Station → Bool) (s : List ℕ) (n class : ℕ) (lat lon : ℤ) (kept : List ℕ) (mark c w own : ℕ) (far : Bool) (r : Station) → r ≡ stationAt s (mark - 1) → own ≡ r .channel → ((m : ℕ) → hits w far (gap c m) ≡ short (assignment c class lat lon) (onChannel m r))
     → (m : ℕ) → goes (getD kept (m - 221) 0) mark m own c w far ≡ goesIn (scene look s n class lat lon) kept mark c m
@@ -61,31 +61,29 @@ moves-yes s n v k few e =
 pub moves-no : (s : List ℕ) (v : ℕ) → Moves s v ≡ false → Lone v → movable (stationAt s (v - 1)) ≡ false
 moves-no s v e l = rw (ne-eqb v 0 (λ q. omega arith), ne-eqb v many (λ q. omega arith)) at e
 
-pub turned-no : (t : Scene) (c v : ℕ) (moves : List Bool) → Down c moves → (Lone v → t .movable (v - 1) ≡ false) → Turned t c v moves moves
+pub turned-no : (t : Scene) (first c v : ℕ) (moves : List Bool) → Down (start first c) moves → (Lone v → t .movable (v - 1) ≡ false) → Turned t first c v moves moves
 unfolding allowed
-turned-no t c v moves d f =
-    record { long = d .long; here = λ l m lo hi. d .at (place c m) (omega arith) ∙ rw (f l); other = λ k o. refl }
+turned-no t first c v moves d f = record { here = λ l m lo hi. d .at (place first c m) (omega arith) ∙ rw (f l); other = λ k o. refl }
 
-pub turned-yes : (t : Scene) (c v : ℕ) (kept : List ℕ) (entry exit : List Bool) → t .size ≤ 65534 → v ≡ seen (t .new c) (t .size) → t .movable (v - 1) ≡ true → ((m : ℕ) → 221 ≤ m → m ≤ 300 → getD kept (m - 221) 0 ≡ seen (t .moved (v - 1) m) (t .size)) → Rowed (goesIn t kept v c) c entry exit → Turned t c v entry exit
-turned-yes t c v kept entry exit few e mv k r =
-    record { long = r .long; here = λ l m lo hi. r .here m lo hi ∙ by-kept t c v kept few (rw e (tally (t .new c) (t .size))) l mv k m lo hi; other = r .other }
+pub turned-yes : (t : Scene) (first c v : ℕ) (kept : List ℕ) (entry exit : List Bool) → t .size ≤ 65534 → v ≡ seen (t .new c) (t .size) → t .movable (v - 1) ≡ true → ((m : ℕ) → 221 ≤ m → m ≤ 300 → getD kept (m - 221) 0 ≡ seen (t .moved (v - 1) m) (t .size)) → Rowed (goesIn t kept v c) first c entry exit → Turned t first c v entry exit
+turned-yes t first c v kept entry exit few e mv k r =
+    record { here = λ l m lo hi. r .here m lo hi ∙ by-kept t c v kept few (rw e (tally (t .new c) (t .size))) l mv k m lo hi; other = r .other }
 
 -- ---- one turn after the other
 
-pub plan-start : (t : Scene) (first : ℕ) (moves : List Bool) → 221 ≤ first → Down 221 moves → Planned t first first moves
-plan-start t first moves lo d =
-    record { down = record { long = d .long; at = λ k h. d .at k (omega arith) }; done = λ x a b. absurd (omega arith) }
+pub plan-start : (t : Scene) (first : ℕ) (moves : List Bool) → Down 0 moves → Planned t first first moves
+plan-start t first moves d = record { down = record { at = λ k h. d .at k (omega arith) }; done = λ x a b. absurd (omega arith) }
 
-pub plan-turn : {t : Scene} {first c : ℕ} {entry exit : List Bool} → 221 ≤ first → first ≤ c → Planned t first c entry → Turned t c (seen (t .new c) (t .size)) entry exit → Planned t first (c + 1) exit
-plan-turn {t} {first} {c} {entry} {exit} lo le p u =
+pub plan-turn : {t : Scene} {first c : ℕ} {entry exit : List Bool} → first ≤ c → Planned t first c entry → Turned t first c (seen (t .new c) (t .size)) entry exit → Planned t first (c + 1) exit
+plan-turn {t} {first} {c} {entry} {exit} le p u =
     record {
-      down = record { long = u .long; at = λ k h. u .other k (inr (omega arith)) ∙ p .down .at k (omega arith) };
+      down = record { at = λ k h. u .other k (inr (omega arith)) ∙ p .down .at k (omega arith) };
       done = λ x a b l m ml mh. go x a b l m ml mh (ℕ-discrete x c);
     }
   where
-    go : (x : ℕ) → first ≤ x → x < c + 1 → Lone (seen (t .new x) (t .size)) → (m : ℕ) → 221 ≤ m → m ≤ 300 → Dec (x ≡ c) → getD exit (place x m) false ≡ allowed t x (seen (t .new x) (t .size) - 1) m
+    go : (x : ℕ) → first ≤ x → x < c + 1 → Lone (seen (t .new x) (t .size)) → (m : ℕ) → 221 ≤ m → m ≤ 300 → Dec (x ≡ c) → getD exit (place first x m) false ≡ allowed t x (seen (t .new x) (t .size) - 1) m
     go x a b l m ml mh (yes e) = rw e (u .here (rw e at l) m ml mh)
-    go x a b l m ml mh (no ne) = u .other (place x m) (inl (omega arith)) ∙ p .done x a (omega arith) l m ml mh
+    go x a b l m ml mh (no ne) = u .other (place first x m) (inl (omega arith)) ∙ p .done x a (omega arith) l m ml mh
 
 -- ---- the same for the scene of a table of which a question looks at every record
 
@@ -93,17 +91,17 @@ module _ (s : List ℕ) (n class : ℕ) (lat lon : ℤ) where
   abbrev t : Scene
   t = scene everyRecord s n class lat lon
 
-  pub turned-kept : {c v : ℕ} {kept : List ℕ} {entry exit : List Bool} → n ≤ 65534 → v ≡ seen (t .new c) n → movable (stationAt s (v - 1)) ≡ true → 0 < v → Kept everyRecord s n v kept → Rowed (goesIn t kept v c) c entry exit → Turned t c v entry exit
+  pub turned-kept : {first c v : ℕ} {kept : List ℕ} {entry exit : List Bool} → n ≤ 65534 → v ≡ seen (t .new c) n → movable (stationAt s (v - 1)) ≡ true → 0 < v → Kept everyRecord s n v kept → Rowed (goesIn t kept v c) first c entry exit → Turned t first c v entry exit
   unfolding scene
-  turned-kept {c} {v} {kept} {entry} {exit} few e mv p k r = turned-yes t c v kept entry exit few e mv (k .of p .at) r
+  turned-kept {first} {c} {v} {kept} {entry} {exit} few e mv p k r = turned-yes t first c v kept entry exit few e mv (k .of p .at) r
 
-  pub turned-not : {c v : ℕ} {moves : List Bool} → Down c moves → (Lone v → movable (stationAt s (v - 1)) ≡ false) → Turned t c v moves moves
+  pub turned-not : {first c v : ℕ} {moves : List Bool} → Down (start first c) moves → (Lone v → movable (stationAt s (v - 1)) ≡ false) → Turned t first c v moves moves
   unfolding scene
-  turned-not {c} {v} {moves} d f = turned-no t c v moves d f
+  turned-not {first} {c} {v} {moves} d f = turned-no t first c v moves d f
 
-  pub planned-turn : {first c v : ℕ} {entry exit : List Bool} → 221 ≤ first → first ≤ c → v ≡ seen (t .new c) n → Planned t first c entry → Turned t c v entry exit → Planned t first (c + 1) exit
+  pub planned-turn : {first c v : ℕ} {entry exit : List Bool} → first ≤ c → v ≡ seen (t .new c) n → Planned t first c entry → Turned t first c v entry exit → Planned t first (c + 1) exit
   unfolding scene
-  planned-turn {first} {c} {v} {entry} {exit} lo le e p u = plan-turn lo le p (subst (λ (x : ℕ). Turned t c x entry exit) e u)
+  planned-turn {first} {c} {v} {entry} {exit} le e p u = plan-turn le p (subst (λ (x : ℕ). Turned t first c x entry exit) e u)
 
   -- ---- the marks of the new channels, and the rows that they and the flags make
 
@@ -115,6 +113,6 @@ module _ (s : List ℕ) (n class : ℕ) (lat lon : ℤ) where
   marks-ok w = record { at = λ m lo hi. rw (w .at m lo hi) (mark-of (t .new m) n _ (tally (t .new m) n)) }
 
   pub rows-of : {marks : List ℕ} {flags : List Bool} (first last : ℕ) → n ≤ 65534 → Marked (t .new) first last n marks → Planned t first (suc last) flags
-      → each (channelRows (λ j. stationAt s j .id) marks flags) (span first (suc last - first)) ≡ flat (arrangements t first last)
+      → each (channelRows (λ j. stationAt s j .id) marks first flags) (span first (suc last - first)) ≡ flat (arrangements t first last)
   unfolding scene
   rows-of {marks} {flags} first last few w p = rows-all t marks flags first last few (λ x a b. w .at x a b) p

@@ -13,16 +13,16 @@ use Rattle.arrangements.specs.Planning.{place, moveAt, markRows}
 use Rattle.ground.proofs.Spans.{length-span, each-length, cond-length}
 use Rattle.ground.proofs.Writes.{todo}
 
-module _ (id : ℕ → ℕ) (moves : List Bool) (c v : ℕ) where
-  pub rows-free : v ≡ 0 → c ∷ 0 ∷ 0 ∷ [] ≡ markRows id moves c v
+module _ (id : ℕ → ℕ) (first : ℕ) (moves : List Bool) (c v : ℕ) where
+  pub rows-free : v ≡ 0 → c ∷ 0 ∷ 0 ∷ [] ≡ markRows id first moves c v
   unfolding markRows
   rows-free e = rw (eq-eqb v 0 e)
 
-  pub rows-many : (v ≡ 0 → ⊥) → v ≡ many → [] ≡ markRows id moves c v
+  pub rows-many : (v ≡ 0 → ⊥) → v ≡ many → [] ≡ markRows id first moves c v
   unfolding markRows
   rows-many n e = rw (ne-eqb v 0 n, eq-eqb v many e)
 
-  pub rows-lone : (v ≡ 0 → ⊥) → (v ≡ many → ⊥) → each (moveAt moves (id (v - 1)) c) (span 221 80) ≡ markRows id moves c v
+  pub rows-lone : (v ≡ 0 → ⊥) → (v ≡ many → ⊥) → each (moveAt first moves (id (v - 1)) c) (span 221 80) ≡ markRows id first moves c v
   unfolding markRows
   rows-lone n m = rw (ne-eqb v 0 n, ne-eqb v many m)
 
@@ -30,8 +30,8 @@ pub all-of : (f : ℕ → List ℕ) (first last : ℕ) → todo f first (last + 
 all-of f first last = rw add-one
 
 -- the moves of one station are at most 80 rows
-pub moves-bound : (moves : List Bool) (i c : ℕ) → length (each (moveAt moves i c) (span 221 80)) ≤ 240
-moves-bound moves i c =
-    let h : length (each (moveAt moves i c) (span 221 80)) ≤ 3 * length (span 221 80) =
-    each-length (moveAt moves i c) 3 (span 221 80) (λ m. cond-length (getD moves (place c m) false) (c ∷ i ∷ m ∷ [])) in
+pub moves-bound : (first : ℕ) (moves : List Bool) (i c : ℕ) → length (each (moveAt first moves i c) (span 221 80)) ≤ 240
+moves-bound first moves i c =
+    let h : length (each (moveAt first moves i c) (span 221 80)) ≤ 3 * length (span 221 80) =
+    each-length (moveAt first moves i c) 3 (span 221 80) (λ m. cond-length (getD moves (place first c m) false) (c ∷ i ∷ m ∷ [])) in
     omega (arith, length-span 80 221)

@@ -60,22 +60,22 @@ module _ (t : Scene) (c : ℕ) where
     clear-one second = one (t .size) (t .new c) a first within (t .size) second (omega arith)
 
     -- the numbers, from the flags of its moves
-    move-numbers : (flags : List Bool) → ((m : ℕ) → 221 ≤ m → m ≤ 300 → getD flags (place c m) false ≡ allowed t c a m) → each (moveAt flags (t .id a) c) (span 221 80) ≡ flat (arranged t c)
+    move-numbers : (low : ℕ) (flags : List Bool) → ((m : ℕ) → 221 ≤ m → m ≤ 300 → getD flags (place low c m) false ≡ allowed t c a m) → each (moveAt low flags (t .id a) c) (span 221 80) ≡ flat (arranged t c)
     unfolding movesOf
-    move-numbers flags right =
+    move-numbers low flags right =
         each-cong _ _ 80 221 (λ m lo hi. rw (right m lo (omega arith)))
         ∙ sym (flat-keep (allowed t c a) (λ m. row c (t .id a) m) (span 221 80))
         ∙ sym (ap flat arranged-one)
 
   -- the numbers of a channel
-  pub by-mark : (v : ℕ) (flags : List Bool) → t .size ≤ 65534 → Tally (t .new c) (t .size) v → (Lone v → (m : ℕ) → 221 ≤ m → m ≤ 300 → getD flags (place c m) false ≡ allowed t c (v - 1) m) → markRows (t .id) flags c v ≡ flat (arranged t c)
-  by-mark v flags few (nobody f) right = sym (rows-free (t .id) flags c 0 refl) ∙ free-numbers f
-  by-mark v flags few (lone a l f g) right =
+  pub by-mark : (v low : ℕ) (flags : List Bool) → t .size ≤ 65534 → Tally (t .new c) (t .size) v → (Lone v → (m : ℕ) → 221 ≤ m → m ≤ 300 → getD flags (place low c m) false ≡ allowed t c (v - 1) m) → markRows (t .id) low flags c v ≡ flat (arranged t c)
+  by-mark v low flags few (nobody f) right = sym (rows-free (t .id) low flags c 0 refl) ∙ free-numbers f
+  by-mark v low flags few (lone a l f g) right =
       let e : suc a - 1 ≡ a = omega arith in
-      sym (rows-lone (t .id) flags c (suc a) (λ q. omega arith) (λ q. omega arith))
-      ∙ ap (λ (i : ℕ). each (moveAt flags (t .id i) c) (span 221 80)) e
-      ∙ move-numbers a f l flags (λ m lo hi. right (omega arith, omega arith) m lo hi ∙ ap (λ (i : ℕ). allowed t c i m) e)
-  by-mark v flags few (several a b l f g h) right = sym (rows-many (t .id) flags c 65535 (λ q. omega arith) refl) ∙ two-numbers a f l b g h
+      sym (rows-lone (t .id) low flags c (suc a) (λ q. omega arith) (λ q. omega arith))
+      ∙ ap (λ (i : ℕ). each (moveAt low flags (t .id i) c) (span 221 80)) e
+      ∙ move-numbers a f l low flags (λ m lo hi. right (omega arith, omega arith) m lo hi ∙ ap (λ (i : ℕ). allowed t c i m) e)
+  by-mark v low flags few (several a b l f g h) right = sym (rows-many (t .id) low flags c 65535 (λ q. omega arith) refl) ∙ two-numbers a f l b g h
 
   -- where a lone movable blocker may go, by the marks from its own site
   pub by-kept : (v : ℕ) (kept : List ℕ) → t .size ≤ 65534 → Tally (t .new c) (t .size) v → Lone v → t .movable (v - 1) ≡ true → ((m : ℕ) → 221 ≤ m → m ≤ 300 → getD kept (m - 221) 0 ≡ seen (t .moved (v - 1) m) (t .size)) → (m : ℕ) → 221 ≤ m → m ≤ 300 → goesIn t kept v c m ≡ allowed t c (v - 1) m
@@ -93,10 +93,10 @@ module _ (t : Scene) (c : ℕ) where
 -- ---- one channel after the other
 
 pub rows-all : (t : Scene) (marks : List ℕ) (flags : List Bool) (first last : ℕ) → t .size ≤ 65534 → ((x : ℕ) → first ≤ x → x ≤ last → getD marks (x - 221) 0 ≡ seen (t .new x) (t .size)) → Planned t first (suc last) flags
-    → each (channelRows (t .id) marks flags) (span first (suc last - first)) ≡ flat (arrangements t first last)
+    → each (channelRows (t .id) marks first flags) (span first (suc last - first)) ≡ flat (arrangements t first last)
 unfolding arrangements
 rows-all t marks flags first last few marked p =
     each-cong _ _ (suc last - first) first (λ x lo hi.
-    ap (markRows (t .id) flags x) (marked x lo (omega arith))
-    ∙ by-mark t x (seen (t .new x) (t .size)) flags few (tally (t .new x) (t .size)) (λ o. p .done x lo (omega arith) o))
+    ap (markRows (t .id) first flags x) (marked x lo (omega arith))
+    ∙ by-mark t x (seen (t .new x) (t .size)) first flags few (tally (t .new x) (t .size)) (λ o. p .done x lo (omega arith) o))
     ∙ sym (flat-each (arranged t) (span first (suc last - first)))

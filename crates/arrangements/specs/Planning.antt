@@ -15,20 +15,28 @@ use Rattle.survey.specs.Ways.{onChannel, blocks}
 use Rattle.survey.specs.Marks.{many, seen, Marked}
 use Rattle.arrangements.specs.Arrange.{Scene, allowed}
 
+-- where the flags of the new channel c start; those of the channel `first` start at 0
+abbrev pub start : ℕ → ℕ → ℕ
+start first c = 80 * (c - first)
+
 -- where the flag of a new and a moved channel stands
-abbrev pub place : ℕ → ℕ → ℕ
-place c m = 80 * (c - 221) + (m - 221)
+abbrev pub place : ℕ → ℕ → ℕ → ℕ
+place first c m = start first c + (m - 221)
+
+-- the list reaches to the end of the flags of the new channel c
+abbrev pub Room : ℕ → ℕ → List Bool → Type 0
+Room first c moves = start first c + 80 ≤ length moves
 
 -- the numbers of one move
-abbrev pub moveAt : List Bool → ℕ → ℕ → ℕ → List ℕ
-moveAt moves id c m = cond (getD moves (place c m) false) (c ∷ id ∷ m ∷ []) []
+abbrev pub moveAt : ℕ → List Bool → ℕ → ℕ → ℕ → List ℕ
+moveAt first moves id c m = cond (getD moves (place first c m) false) (c ∷ id ∷ m ∷ []) []
 
 -- the numbers of one new channel, by its mark
-unfoldable pub markRows : (ℕ → ℕ) → List Bool → ℕ → ℕ → List ℕ
-markRows id moves c v = cond (eqb v 0) (c ∷ 0 ∷ 0 ∷ []) (cond (eqb v many) [] (each (moveAt moves (id (v - 1)) c) (span 221 80)))
+unfoldable pub markRows : (ℕ → ℕ) → ℕ → List Bool → ℕ → ℕ → List ℕ
+markRows id first moves c v = cond (eqb v 0) (c ∷ 0 ∷ 0 ∷ []) (cond (eqb v many) [] (each (moveAt first moves (id (v - 1)) c) (span 221 80)))
 
-abbrev pub channelRows : (ℕ → ℕ) → List ℕ → List Bool → ℕ → List ℕ
-channelRows id marks moves c = markRows id moves c (getD marks (c - 221) 0)
+abbrev pub channelRows : (ℕ → ℕ) → List ℕ → ℕ → List Bool → ℕ → List ℕ
+channelRows id marks first moves c = markRows id first moves c (getD marks (c - 221) 0)
 
 -- a mark that a table of n stations can have
 abbrev pub Mark : ℕ → ℕ → Type 0
@@ -42,31 +50,28 @@ abbrev pub Lone : ℕ → Type 0
 Lone v = (0 < v) × (v < many)
 
 -- the flags of one new channel are f, and the others are as they were
-pub record Rowed (f : ℕ → Bool) (c : ℕ) (entry exit : List Bool) : Type 0 where
-  pub long : length exit ≡ 6400
-  pub here : (m : ℕ) → 221 ≤ m → m ≤ 300 → getD exit (place c m) false ≡ f m
-  pub other : (k : ℕ) → (k < 80 * (c - 221)) ⊎ (80 * (c - 221) + 80 ≤ k) → getD exit k false ≡ getD entry k false
+pub record Rowed (f : ℕ → Bool) (first c : ℕ) (entry exit : List Bool) : Type 0 where
+  pub here : (m : ℕ) → 221 ≤ m → m ≤ 300 → getD exit (place first c m) false ≡ f m
+  pub other : (k : ℕ) → (k < start first c) ⊎ (start first c + 80 ≤ k) → getD exit k false ≡ getD entry k false
 
 -- the marks of the station that `whose` marks, from its own site
 pub record Kept (look : Station → Bool) (s : List ℕ) (n whose : ℕ) (kept : List ℕ) : Type 0 where
   pub long : length kept ≡ 80
   pub of : 0 < whose → Marked (λ m j. blocks look s (onChannel m (stationAt s (whose - 1))) j) 221 300 n kept
 
--- the flags of the new channels from c on are down
-pub record Down (c : ℕ) (moves : List Bool) : Type 0 where
-  pub long : length moves ≡ 6400
-  pub at : (k : ℕ) → 80 * (c - 221) ≤ k → getD moves k false ≡ false
+-- the flags from place p on are down
+pub record Down (p : ℕ) (moves : List Bool) : Type 0 where
+  pub at : (k : ℕ) → p ≤ k → getD moves k false ≡ false
 
 -- the flags of the new channel c are right, and the others are as they were
-pub record Turned (t : Scene) (c v : ℕ) (entry exit : List Bool) : Type 0 where
-  pub long : length exit ≡ 6400
-  pub here : Lone v → (m : ℕ) → 221 ≤ m → m ≤ 300 → getD exit (place c m) false ≡ allowed t c (v - 1) m
-  pub other : (k : ℕ) → (k < 80 * (c - 221)) ⊎ (80 * (c - 221) + 80 ≤ k) → getD exit k false ≡ getD entry k false
+pub record Turned (t : Scene) (first c v : ℕ) (entry exit : List Bool) : Type 0 where
+  pub here : Lone v → (m : ℕ) → 221 ≤ m → m ≤ 300 → getD exit (place first c m) false ≡ allowed t c (v - 1) m
+  pub other : (k : ℕ) → (k < start first c) ⊎ (start first c + 80 ≤ k) → getD exit k false ≡ getD entry k false
 
 -- the flags of the new channels from first to before c are right, and those from c on are down
 pub record Planned (t : Scene) (first c : ℕ) (moves : List Bool) : Type 0 where
-  pub down : Down c moves
-  pub done : (x : ℕ) → first ≤ x → x < c → Lone (seen (t .new x) (t .size)) → (m : ℕ) → 221 ≤ m → m ≤ 300 → getD moves (place x m) false ≡ allowed t x (seen (t .new x) (t .size) - 1) m
+  pub down : Down (start first c) moves
+  pub done : (x : ℕ) → first ≤ x → x < c → Lone (seen (t .new x) (t .size)) → (m : ℕ) → 221 ≤ m → m ≤ 300 → getD moves (place first x m) false ≡ allowed t x (seen (t .new x) (t .size) - 1) m
 
 -- whether the station marked `mark`, on own, may go to m, whose mark from its site is `there`
 abbrev pub goes : ℕ → ℕ → ℕ → ℕ → ℕ → ℕ → Bool → Bool

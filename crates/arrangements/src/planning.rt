@@ -1,9 +1,9 @@
-// Where the lone blocker of a new channel may go: flags for 80 new channels and 80 moved ones.
+// Where the lone blocker of a new channel may go: 80 flags for each new channel, from the first one asked for.
 ghost use mathlib.Core.Path.{_≡_};
 ghost use mathlib.Core.Bool.{not, _&&_, _||_};
 ghost use Prim.Native.Nat.{suc, _-_, _≤_, _<_};
 ghost use lib.Dec.{eqb};
-ghost use lib.ListN.{length, getD};
+ghost use lib.ListN.{getD};
 ghost use Rattle.part73.specs.TableA.{km as tableA};
 ghost use Rattle.spacing.specs.Limits.{Sound, Limits, hits};
 ghost use Rattle.stations.specs.Image.{stationAt, judged};
@@ -12,7 +12,7 @@ ghost use Rattle.stations.specs.declared.Judged.the-variants.{Table};
 ghost use Rattle.survey.specs.Ways.{everyRecord};
 ghost use Rattle.survey.specs.Marks.{many, seen, Marked};
 ghost use Rattle.arrangements.specs.Arrange.{scene};
-ghost use Rattle.arrangements.specs.Planning.{Mark, Rowed, Kept, Planned, Down, Turned, goes, goesIn};
+ghost use Rattle.arrangements.specs.Planning.{start, Room, Mark, Rowed, Kept, Planned, Down, Turned, goes, goesIn};
 
 pub const MANY: u16 = 65535;
 
@@ -60,18 +60,19 @@ fn fill_row(
     kept: &[u16; 80],
     mark: u16,
     own: usize,
+    first: usize,
     c: usize,
     w: usize,
     far: bool,
-    moves: &mut [bool; 6400],
+    moves: &mut [bool],
 )
-    requires { ⌜ (length (now moves) ≡ 6400) × ((221 ≤ c) × (c ≤ 300)) ⌝ }
-    ensures { λ _. ⌜ Rowed (λ m. goes (getD (now (kept .entry)) (m - 221) 0) mark m own c w far) c (now (moves .entry)) (now (moves .exit)) ⌝ }
+    requires { ⌜ (first ≤ c) × (Room first c (now moves)) ⌝ }
+    ensures { λ _. ⌜ Rowed (λ m. goes (getD (now (kept .entry)) (m - 221) 0) mark m own c w far) first c (now (moves .entry)) (now (moves .exit)) ⌝ }
 {
     let mut m: usize = 221;
     while m <= 300 {
         let k = m - 221;
-        let p = 80 * (c - 221) + k;
+        let p = 80 * (c - first) + k;
         let there = kept[k];
         moves[p] = may_go(there, mark, m, own, c, w, far);
         m += 1;
@@ -118,14 +119,15 @@ fn flag_moves(
     near: &[u64; 48],
     lat: i32,
     lon: i32,
+    first: usize,
     c: usize,
     mark: u16,
     kept: &[u16; 80],
-    moves: &mut [bool; 6400],
+    moves: &mut [bool],
 )
     requires { ⌜ judged (now table) ≡ Table n ⌝ }
-    requires { ⌜ (Limits tableA class (now near)) × ((Sound class lat lon) × (((221 ≤ c) × (c ≤ 300)) × (((0 < mark) × (mark ≤ n)) × (length (now moves) ≡ 6400)))) ⌝ }
-    ensures { λ _. ⌜ Rowed (goesIn (scene everyRecord (now (table .entry)) n class lat lon) (now (kept .entry)) mark c) c (now (moves .entry)) (now (moves .exit)) ⌝ }
+    requires { ⌜ (Limits tableA class (now near)) × ((Sound class lat lon) × (((0 < mark) × (mark ≤ n)) × ((221 ≤ c) × ((first ≤ c) × (Room first c (now moves)))))) ⌝ }
+    ensures { λ _. ⌜ Rowed (goesIn (scene everyRecord (now (table .entry)) n class lat lon) (now (kept .entry)) mark c) first c (now (moves .entry)) (now (moves .exit)) ⌝ }
 {
     let r = stations::station_at(table, mark as usize - 1);
     let theirs = r.class as usize;
@@ -136,7 +138,7 @@ fn flag_moves(
     let w = spacing::reach(class, near, theirs, s);
     let k = 4 * theirs + 3;
     let far = s < near[k];
-    fill_row(kept, mark, own, c, w, far, moves)
+    fill_row(kept, mark, own, first, c, w, far, moves)
 }
 
 // One new channel: its flags, where one movable station alone stands in the way. Answers whose marks are kept.
@@ -147,20 +149,21 @@ fn turn(
     near: &[u64; 48],
     lat: i32,
     lon: i32,
+    first: usize,
     c: usize,
     mark: u16,
     whose: u16,
     kept: &mut [u16; 80],
-    moves: &mut [bool; 6400],
+    moves: &mut [bool],
 ) -> u16
     requires { ⌜ judged (now table) ≡ Table n ⌝ }
-    requires { ⌜ (Limits tableA class (now near)) × ((Sound class lat lon) × ((221 ≤ c) × (c ≤ 300))) ⌝ }
-    requires { ⌜ (mark ≡ seen (scene everyRecord (now table) n class lat lon .new c) n) × ((Kept everyRecord (now table) n whose (now kept)) × (Down c (now moves))) ⌝ }
-    ensures { λ r. ⌜ (Kept everyRecord (now (table .entry)) n r (now (kept .exit))) × (Turned (scene everyRecord (now (table .entry)) n class lat lon) c mark (now (moves .entry)) (now (moves .exit))) ⌝ }
+    requires { ⌜ (Limits tableA class (now near)) × ((Sound class lat lon) × ((221 ≤ c) × ((first ≤ c) × (Room first c (now moves))))) ⌝ }
+    requires { ⌜ (mark ≡ seen (scene everyRecord (now table) n class lat lon .new c) n) × ((Kept everyRecord (now table) n whose (now kept)) × (Down (start first c) (now moves))) ⌝ }
+    ensures { λ r. ⌜ (Kept everyRecord (now (table .entry)) n r (now (kept .exit))) × (Turned (scene everyRecord (now (table .entry)) n class lat lon) first c mark (now (moves .entry)) (now (moves .exit))) ⌝ }
 {
     if may_move(table, n, mark) {
         keep(table, n, mark, whose, kept);
-        flag_moves(table, n, class, near, lat, lon, c, mark, kept, moves);
+        flag_moves(table, n, class, near, lat, lon, first, c, mark, kept, moves);
         return mark;
     }
     whose
@@ -176,11 +179,11 @@ pub fn plan(
     first: usize,
     last: usize,
     marks: &[u16; 80],
-    moves: &mut [bool; 6400],
+    moves: &mut [bool],
 )
     requires { ⌜ judged (now table) ≡ Table n ⌝ }
     requires { ⌜ (Sound class lat lon) × ((221 ≤ first) × ((first ≤ last) × (last ≤ 300))) ⌝ }
-    requires { ⌜ (Marked (scene everyRecord (now table) n class lat lon .new) first last n (now marks)) × (Down 221 (now moves)) ⌝ }
+    requires { ⌜ (Marked (scene everyRecord (now table) n class lat lon .new) first last n (now marks)) × ((Down 0 (now moves)) × (Room first last (now moves))) ⌝ }
     ensures { λ _. ⌜ Planned (scene everyRecord (now (table .entry)) n class lat lon) first (suc last) (now (moves .exit)) ⌝ }
 {
     let near = spacing::limits_of(class, lat);
@@ -197,6 +200,7 @@ pub fn plan(
             &near,
             lat,
             lon,
+            first,
             c,
             mark,
             whose,
@@ -205,11 +209,4 @@ pub fn plan(
         );
         c += 1;
     }
-}
-
-// Flags that are all down.
-pub fn no_moves() -> [bool; 6400]
-    ensures { λ r. ⌜ Down 221 r ⌝ }
-{
-    [false; 6400]
 }

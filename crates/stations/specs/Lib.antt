@@ -1,4 +1,5 @@
 pub mod Version
 pub mod Image
+pub mod Scanning
 pub mod Encode
 pub mod Lists

@@ -1,14 +1,17 @@
 // The judgement of an image: its header, then its records.
 ghost use mathlib.Core.Path.{_≡_};
-ghost use Prim.Native.Nat.{_≤_};
+ghost use Prim.Native.Nat.{_/_, _≤_};
 ghost use lib.ListN.{length};
-ghost use Rattle.stations.specs.Image.{verdict, numbers as numbersOf, headed, scanned, judged};
+ghost use Rattle.stations.specs.Image.{version, verdict, numbers as numbersOf, headed, scanned, judged};
+ghost use Rattle.stations.specs.Scanning.{idBefore, Ahead, Passed, SoundTo};
+ghost use Rattle.stations.specs.Version.{top as topOf};
 ghost use Rattle.stations.specs.declared.Judged.the-variants.{Table};
 use crate::HEADER;
 use crate::Judged;
 use crate::MARK;
 use crate::RECORD;
 use crate::Station;
+use crate::TWO_RECORDS;
 use crate::Verdict;
 use crate::reading::record_from;
 use crate::version::is_carried;
@@ -102,6 +105,64 @@ fn verdict_of(top: u8, last: u32, position: u32, r: Station) -> Verdict
     Verdict::Sound
 }
 
+// Whether the record at a place is sound after one with the id `last`.
+fn one_is_sound(table: &[u8], n: usize, top: u8, at: usize, last: u32) -> bool
+    requires { ⌜ headed (now table) ≡ Table n ⌝ }
+    requires { ⌜ (top ≡ topOf (version (now table))) × (Ahead (now table) n 1 at last) ⌝ }
+    ensures { λ r. ⌜ Passed (now (table .entry)) (at / 16) 1 r ⌝ }
+{
+    let r = record_from(table, at);
+    let v = verdict_of(top, last, 0, r);
+    if let Verdict::Faulty(f) = v {
+        return false;
+    }
+    true
+}
+
+// Whether the two records from a place on are.
+fn two_are_sound(table: &[u8], n: usize, top: u8, at: usize, last: u32) -> bool
+    requires { ⌜ headed (now table) ≡ Table n ⌝ }
+    requires { ⌜ (top ≡ topOf (version (now table))) × (Ahead (now table) n 2 at last) ⌝ }
+    ensures { λ r. ⌜ Passed (now (table .entry)) (at / 16) 2 r ⌝ }
+{
+    if one_is_sound(table, n, top, at, last) {
+        let id = wire::get32(table, at);
+        return one_is_sound(table, n, top, at + RECORD, id);
+    }
+    false
+}
+
+// A place up to which all records are sound, two at a time: one of the two from there on is not, or fewer than two are left.
+fn sound_to(table: &[u8], n: usize, top: u8) -> usize
+    requires { ⌜ headed (now table) ≡ Table n ⌝ }
+    requires { ⌜ top ≡ topOf (version (now table)) ⌝ }
+    ensures { λ r. ⌜ SoundTo (now (table .entry)) n r ⌝ }
+{
+    let end = table.len();
+    let mut last: u32 = 0;
+    let mut at = HEADER;
+    while at + TWO_RECORDS <= end {
+        if !two_are_sound(table, n, top, at, last) {
+            return at;
+        }
+        last = wire::get32(table, at + RECORD);
+        at += TWO_RECORDS;
+    }
+    at
+}
+
+// The id before a place.
+fn id_before(table: &[u8], n: usize, at: usize) -> u32
+    requires { ⌜ headed (now table) ≡ Table n ⌝ }
+    requires { ⌜ SoundTo (now table) n at ⌝ }
+    ensures { λ r. ⌜ r ≡ idBefore (now (table .entry)) (at / 16) ⌝ }
+{
+    if at == HEADER {
+        return 0;
+    }
+    wire::get32(table, at - RECORD)
+}
+
 // The refusals 7 to 12 of the records in turn, or the count.
 fn records(table: &[u8], n: usize) -> Judged
     requires { ⌜ headed (now table) ≡ Table n ⌝ }
@@ -110,8 +171,8 @@ fn records(table: &[u8], n: usize) -> Judged
     let version = wire::get16(table, 3);
     let top = top_of(version);
     let end = table.len();
-    let mut last: u32 = 0;
-    let mut at = HEADER;
+    let mut at = sound_to(table, n, top);
+    let mut last = id_before(table, n, at);
     while at < end {
         let r = record_from(table, at);
         let i = at / RECORD;

@@ -42,3 +42,5 @@ const MARK: [u8; 3] = *b"FMS";
 const HEADER: usize = 8;
 
 const RECORD: usize = 16;
+
+const TWO_RECORDS: usize = 32;

@@ -1,17 +1,20 @@
 -- The channels that one station reaches: bands around its own, and 53 and 54 away on both sides. Assumes nothing.
 use mathlib.Core.Path.{_≡_, refl, sym, _∙_}
 use mathlib.Core.Bool.{Bool, true, false, _&&_, _||_, true≢false, or-true, or-false, and-true, and-false, or-assoc}
+use mathlib.Core.List.{List}
 use mathlib.Core.Logic.{_⊎_, inl, inr, ⊎-elim}
 use Prim.Native.Nat.{ℕ, _+_, _-_, _≤_, _<_, max, min}
 use native.Mathlib.Omega.{arith}
 use native.Mathlib.Decide.{ℕ-discrete, decLt}
 use lib.Dec.{leb, ltb, eqb}
+use lib.ListN.{length, getD, set, length-set}
+use lib.Seq.{getD-set-same, getD-set-other}
 use borrow.Author.Tests.{lt-ltb, le-ltb, le-leb, eq-eqb, leb-true, ltb-true, eqb-true}
 use Rattle.ground.proofs.Guards.{and-was, or-first}
 use Rattle.part73.specs.Columns.{gap}
 use Rattle.part73.proofs.Facts.{column-none}
 use Rattle.spacing.specs.Limits.{hits}
-use Rattle.survey.specs.Marks.{Touches}
+use Rattle.survey.specs.Marks.{Touches, Touching}
 
 -- ---- two tests are one where each gives the other
 
@@ -136,10 +139,32 @@ module _ (c w : ℕ) (low : 201 ≤ c) (most : w ≤ 4) where
 
 -- ---- a channel that has no requirement against any of a range
 
--- two ranges without a common channel
-pub touching : (c first last : ℕ) → Touches c first last true
-touching c first last = record { none-of = λ e. absurd (true≢false e) }
+-- a channel that is let through
+pub let-through : (c first last : ℕ) → Touches c first last true
+let-through c first last = record { none-of = λ e. absurd (true≢false e) }
 
 -- none where every difference in the range is over 3 and neither 53 nor 54
 pub untouched : (c first last : ℕ) (r : Bool) → (r ≡ false → (m : ℕ) → first ≤ m → m ≤ last → (3 < gap m c) × ((gap m c ≡ 53 → ⊥) × (gap m c ≡ 54 → ⊥))) → Touches c first last r
 untouched c first last r f = record { none-of = λ q m a b. let h = f q m a b in column-none (gap m c) (h .0) (h .1 .0) (h .1 .1) }
+
+-- ---- a table of them, filled channel by channel
+
+-- the channels from 201 on that are below c are told
+pub record Told (first last : ℕ) (t : List Bool) (c : ℕ) : Type 0 where
+  pub long : length t ≡ 301
+  pub low : 201 ≤ c
+  pub at : (x : ℕ) → 201 ≤ x → x < c → Touches x first last (getD t x false)
+
+pub told-start : (first last : ℕ) (t : List Bool) → length t ≡ 301 → Told first last t 201
+told-start first last t e = record { long = e; low = omega arith; at = λ x lo hi. absurd (omega arith) }
+
+pub told-turn : {first last c : ℕ} {t : List Bool} {v : Bool} → Told first last t c → c ≤ 300 → Touches c first last v → Told first last (set t c v) (c + 1)
+told-turn {first} {last} {c} {t} {v} w h e =
+    record { long = length-set t c v ∙ w .long; low = omega (arith, w .low); at = λ x lo hi. go x lo hi (ℕ-discrete x c) }
+  where
+    go : (x : ℕ) → 201 ≤ x → x < c + 1 → Dec (x ≡ c) → Touches x first last (getD (set t c v) x false)
+    go x lo hi (yes p) = rw (p, getD-set-same t c v false (omega (arith, w .long))) e
+    go x lo hi (no np) = rw (getD-set-other t c x v false (λ p. np (omega arith))) (w .at x lo (omega arith))
+
+pub told-end : {first last c : ℕ} {t : List Bool} → Told first last t c → 300 < c → Touching first last t
+told-end w h = record { long = w .long; at = λ x lo hi. w .at x lo (omega arith) }

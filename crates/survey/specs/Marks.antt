@@ -37,3 +37,8 @@ pub record Wiped (marks : List ℕ) : Type 0 where
 -- where r is false, no channel from first to last has a requirement against channel c
 pub record Touches (c first last : ℕ) (r : Bool) : Type 0 where
   pub none-of : r ≡ false → (m : ℕ) → first ≤ m → m ≤ last → column (gap m c) ≡ none
+
+-- t tells so of each channel from 201 to 300, at its number
+pub record Touching (first last : ℕ) (t : List Bool) : Type 0 where
+  pub long : length t ≡ 301
+  pub at : (c : ℕ) → 201 ≤ c → c ≤ 300 → Touches c first last (getD t c false)

@@ -9,12 +9,12 @@ ghost use Rattle.spacing.specs.Limits.{Sound, Near};
 ghost use Rattle.stations.specs.Image.{stationAt, judged};
 ghost use Rattle.stations.specs.declared.Judged.the-variants.{Table};
 ghost use Rattle.survey.specs.Ways.{asItStands, everyRecord, blocks};
-ghost use Rattle.survey.specs.Marks.{Marked, Struck};
+ghost use Rattle.survey.specs.Marks.{Marked, Struck, Touching};
 
 mod marking;
 
 use marking::strike;
-use marking::touches;
+use marking::touching;
 use marking::wipe;
 
 // Whether a station of a class at a site, on a channel, is short to the record at position i.
@@ -51,14 +51,15 @@ fn look_at(
     lon: i32,
     first: usize,
     last: usize,
+    touched: &[bool; 301],
     marks: &mut [u16; 80],
 )
     requires { ⌜ judged (now table) ≡ Table n ⌝ }
-    requires { ⌜ (i < n) × ((Near tableA class lat (now near)) × ((Sound class lat lon) × ((length (now marks) ≡ 80) × ((221 ≤ first) × (last ≤ 300))))) ⌝ }
+    requires { ⌜ (i < n) × ((Near tableA class lat (now near)) × ((Sound class lat lon) × ((length (now marks) ≡ 80) × ((221 ≤ first) × ((last ≤ 300) × (Touching first last (now touched))))))) ⌝ }
     ensures { λ _. ⌜ Struck (λ m. blocks everyRecord (now (table .entry)) (assignment m class lat lon) i) first last i (now (marks .entry)) (now (marks .exit)) ⌝ }
 {
     let c = stations::channel_at(table, i) as usize;
-    if touches(c, first, last) {
+    if touched[c] {
         let r = stations::station_at(table, i);
         let theirs = r.class as usize;
         let lat2 = r.latitude;
@@ -85,9 +86,22 @@ pub fn survey(
 {
     wipe(marks);
     let near = spacing::limits_of(class, lat);
+    let touched = touching(first, last);
     let mut i: usize = 0;
     while i < n {
-        look_at(table, n, i, class, &near, lat, lon, first, last, marks);
+        look_at(
+            table,
+            n,
+            i,
+            class,
+            &near,
+            lat,
+            lon,
+            first,
+            last,
+            &touched,
+            marks,
+        );
         i += 1;
     }
 }

@@ -8,7 +8,7 @@ ghost use Rattle.part73.specs.Columns.{gap};
 ghost use Rattle.part73.specs.TableA.{km as tableA};
 ghost use Rattle.spacing.specs.Pair.{assignment, short};
 ghost use Rattle.spacing.specs.Limits.{Sound, Near, hits};
-ghost use Rattle.survey.specs.Marks.{join, Struck, Wiped, Touches};
+ghost use Rattle.survey.specs.Marks.{join, Struck, Wiped, Touches, Touching};
 
 const MANY: u16 = 65535;
 
@@ -102,7 +102,7 @@ pub fn wipe(marks: &mut [u16; 80])
 }
 
 // Whether channel c may have a requirement against one from first to last: those at most 3 away, and those 53 or 54 away.
-pub fn touches(c: usize, first: usize, last: usize) -> bool
+fn touches(c: usize, first: usize, last: usize) -> bool
     requires { ⌜ ((201 ≤ c) × (c ≤ 300)) × (last ≤ 300) ⌝ }
     ensures { λ r. ⌜ Touches c first last r ⌝ }
 {
@@ -135,4 +135,18 @@ fn below(c: usize, first: usize, last: usize) -> bool
         return false;
     }
     first <= c - 53
+}
+
+// For each channel whether it may have a requirement against one from first to last.
+pub fn touching(first: usize, last: usize) -> [bool; 301]
+    requires { ⌜ last ≤ 300 ⌝ }
+    ensures { λ r. ⌜ Touching first last r ⌝ }
+{
+    let mut touched = [false; 301];
+    let mut c: usize = 201;
+    while c <= 300 {
+        touched[c] = touches(c, first, last);
+        c += 1;
+    }
+    touched
 }

@@ -21,8 +21,8 @@ channel-at-requires c κs = room-at _ _ (c .before .pre .0) (c .before .args .i)
 cast-c : tie.Need-cast-c
 cast-c c = search needs
 
-touches-requires : tie.Need-touches-requires
-touches-requires c κs = let k = known (c .before .before) in rw (c .channel-at .ensures) ((k .low, k .high), c .before .before .pre .1 .1 .1 .1 .1 .1)
+element-copy-out-if1 : tie.Need-element-copy-out-if1
+element-copy-out-if1 c = let k = known (c .before .before) in rw (c .channel-at .ensures) (omega (arith, k .high))
 
 station-at-requires : tie.Need-station-at-requires
 station-at-requires c κs = let s = c .before .before .before .before in room-at _ _ (s .pre .0) (s .args .i) (s .pre .1 .0)
@@ -46,18 +46,18 @@ returns c =
     let r = c .before .before .before .before .before in
     let s = r .before .before .before .before .before in
     let k = known s in
-    struck-part (s .pre .1 .1 .1 .1 .1 .0) (s .pre .1 .1 .1 .1 .1 .1)
+    struck-part (s .pre .1 .1 .1 .1 .1 .0) (s .pre .1 .1 .1 .1 .1 .1 .0)
     (struck-as (λ m lo hi. blocks-every (now (s .args .table)) (assignment m (s .args .class) (s .args .lat) (s .args .lon)) (s .args .i))
     (simp (toZ-ofZ (s .fits .lat), toZ-ofZ (s .fits .lon), r .station-at .ensures, toZ-ofZ (lat-fits (k .sound)), toZ-ofZ (lon-fits (k .sound)), r .before .before .before .channel-at .ensures) at (c .strike .ensures)))
 
 returns-2 : tie.Need-returns-2
 returns-2 c =
-    let t = c .before in
-    let r = t .before in
+    let r = c .before .before in
     let s = r .before .before in
-    let far = rw (r .channel-at .ensures) at (t .touches .ensures .none-of (c .if1 .left)) in
+    let k = known s in
+    let far = s .pre .1 .1 .1 .1 .1 .1 .1 .at _ (k .low) (k .high) .none-of (rw (r .channel-at .ensures) at (c .if1 .left)) in
     struck-as (λ m lo hi.
-    untouched-at (s .pre .1 .1 .1 .0) (known s .sound) m _ (omega (arith, s .pre .1 .1 .1 .1 .1 .0)) (far m lo hi)
+    untouched-at (s .pre .1 .1 .1 .0) (k .sound) m _ (omega (arith, s .pre .1 .1 .1 .1 .1 .0)) (far m lo hi)
     ∙ blocks-every (now (s .args .table)) (assignment m (s .args .class) (s .args .lat) (s .args .lon)) (s .args .i))
     (struck-none _ _ _ _ (s .pre .1 .1 .1 .1 .0))
 
@@ -67,7 +67,7 @@ look-at-spec =
     (tie.spec
     channel-at-requires
     cast-c
-    touches-requires
+    element-copy-out-if1
     station-at-requires
     cast-theirs
     cast-who

@@ -12,7 +12,7 @@ use Rattle.arrangements.proofs.listing.list.Tie as tie
 abbrev Inv-loop : tie.InvT-loop
 Inv-loop table n first last marks moves rows₀ at₀ c₀ rows at c =
     (first ≤ c) × (c ≤ max first (last + 1)) × (at ≤ 240 * (c - first))
-    × Walking (channelRows (λ j. stationAt table j .id) marks moves) (last + 1) c at rows (each (channelRows (λ j. stationAt table j .id) marks moves) (span first (suc last - first))) 0 rows₀
+    × Walking (channelRows (λ j. stationAt table j .id) marks first moves) (last + 1) c at rows (each (channelRows (λ j. stationAt table j .id) marks first moves) (span first (suc last - first))) 0 rows₀
 
 abbrev μ-loop : tie.MeasureT-loop
 μ-loop table n first last marks moves rows₀ at₀ c₀ rows at c = last + 1 - c
@@ -32,8 +32,8 @@ element-copy-out-list-channel c = omega arith
 list-channel-requires : tie.Need-list-channel-requires Inv-loop μ-loop
 list-channel-requires c κs =
     let l = c .before .before .before .loop in
-    let s = c .before .before .before .before .before .before in
-    (s .pre .0, (s .pre .1 .0 .at (l .c) (omega arith) (omega arith), (omega (arith, l .inv, s .pre .1 .1), (omega arith, omega arith))))
+    let s = c .before .before .before .before .before .before .before in
+    (s .pre .0, (s .pre .1 .0 .at (l .c) (omega arith) (omega arith), (omega (arith, l .inv, s .pre .1 .1), (omega arith, (omega arith, omega (arith, l .inv, s .pre .1 .1))))))
 
 add-c : tie.Need-add-c Inv-loop μ-loop
 add-c c = omega arith
@@ -51,7 +51,7 @@ same-length : tie.Need-same-length Inv-loop μ-loop
 same-length c = walk-length (c .before .loop .inv .3)
 
 returns : tie.Need-returns Inv-loop μ-loop
-returns c = (walk-end (omega arith) (c .before .loop .inv .3), omega (arith, c .before .loop .inv, c .before .before .before .before .pre .1 .1))
+returns c = (walk-end (omega arith) (c .before .loop .inv .3), omega (arith, c .before .loop .inv, c .before .before .before .before .before .pre .1 .1))
 
 pub list-spec : {M : Type 1} → statement M
 list-spec =

@@ -11,11 +11,11 @@ use Rattle.arrangements.proofs.listing.list_moves.Statement.{statement}
 use Rattle.arrangements.proofs.listing.list_moves.Tie as tie
 
 abbrev Inv-loop : tie.InvT-loop
-Inv-loop moves id c rows₀ at to₀ m₀ rows to m =
-    (221 ≤ m) × (m ≤ 301) × Walking (moveAt moves id c) 301 m to rows (each (moveAt moves id c) (span 221 80)) at rows₀
+Inv-loop moves id first c rows₀ at to₀ m₀ rows to m =
+    (221 ≤ m) × (m ≤ 301) × Walking (moveAt first moves id c) 301 m to rows (each (moveAt first moves id c) (span 221 80)) at rows₀
 
 abbrev μ-loop : tie.MeasureT-loop
-μ-loop moves id c rows₀ at to₀ m₀ rows to m = 301 - m
+μ-loop moves id first c rows₀ at to₀ m₀ rows to m = 301 - m
 
 loop-holds : tie.Need-loop-holds Inv-loop μ-loop
 loop-holds c = (omega arith, omega arith, walk-start _ _ _ _ _ _ refl)
@@ -32,8 +32,8 @@ sub-k-2 c = omega arith
 add-k : tie.Need-add-k Inv-loop μ-loop
 add-k c = omega arith
 
-element-copy-out-put-row-if : tie.Need-element-copy-out-put-row-if Inv-loop μ-loop
-element-copy-out-put-row-if c = omega arith
+shared-slice-read-put-row-if : tie.Need-shared-slice-read-put-row-if Inv-loop μ-loop
+shared-slice-read-put-row-if c = omega arith
 
 cast-put-row-if : tie.Need-cast-put-row-if Inv-loop μ-loop
 cast-put-row-if c = omega arith
@@ -42,7 +42,10 @@ cast-put-row-if-2 : tie.Need-cast-put-row-if-2 Inv-loop μ-loop
 cast-put-row-if-2 c = omega arith
 
 put-row-if-requires : tie.Need-put-row-if-requires Inv-loop μ-loop
-put-row-if-requires c κs = let s = c .before .before .before .before .before in omega (arith, c .before .before .before .loop .inv .2 .places, moves-bound (now (s .args .moves)) (s .args .id) (s .args .c), s .pre .0)
+put-row-if-requires c κs =
+    let l = c .before .before .before in
+    let s = l .before .before .before in
+    omega (arith, l .loop .inv .2 .places, moves-bound (s .args .first) (now (s .args .moves)) (s .args .id) (s .args .c), s .pre .0)
 
 add-m : tie.Need-add-m Inv-loop μ-loop
 add-m c = omega arith
@@ -71,7 +74,7 @@ list-moves-spec =
     mul-k
     sub-k-2
     add-k
-    element-copy-out-put-row-if
+    shared-slice-read-put-row-if
     cast-put-row-if
     cast-put-row-if-2
     put-row-if-requires

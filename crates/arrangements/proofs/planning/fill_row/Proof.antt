@@ -8,13 +8,13 @@ use Rattle.arrangements.proofs.planning.fill_row.Statement.{statement}
 use Rattle.arrangements.proofs.planning.fill_row.Tie as tie
 
 abbrev Inv-loop : tie.InvT-loop
-Inv-loop kept mark own c w far moves₀ m₀ moves m = Rowing (λ x. goes (getD kept (x - 221) 0) mark x own c w far) c moves₀ moves m
+Inv-loop kept mark own first c w far moves₀ m₀ moves m = Rowing (λ x. goes (getD kept (x - 221) 0) mark x own c w far) first c moves₀ moves m
 
 abbrev μ-loop : tie.MeasureT-loop
-μ-loop kept mark own c w far moves₀ m₀ moves m = 301 - m
+μ-loop kept mark own first c w far moves₀ m₀ moves m = 301 - m
 
 loop-holds : tie.Need-loop-holds Inv-loop μ-loop
-loop-holds c = row-start _ _ _ (c .pre .0)
+loop-holds c = row-start _ _ _ _
 
 sub-k : tie.Need-sub-k Inv-loop μ-loop
 sub-k c = omega arith
@@ -37,8 +37,8 @@ element-copy-out-there c = omega arith
 may-go-requires : tie.Need-may-go-requires Inv-loop μ-loop
 may-go-requires c κs = tt
 
-element-write-moves : tie.Need-element-write-moves Inv-loop μ-loop
-element-write-moves c = omega arith
+slice-write-moves : tie.Need-slice-write-moves Inv-loop μ-loop
+slice-write-moves c = omega arith
 
 add-m : tie.Need-add-m Inv-loop μ-loop
 add-m c = omega arith
@@ -47,7 +47,12 @@ loop-less : tie.Need-loop-less Inv-loop μ-loop
 loop-less c = omega arith
 
 loop-again : tie.Need-loop-again Inv-loop μ-loop
-loop-again c = let s = c .before .before .before .before in row-turn (c .before .before .before .loop .inv) (s .pre .1 .0) (s .pre .1 .1) (omega arith) (c .may-go .ensures)
+loop-again c =
+    let l = c .before .before .before in
+    row-turn (l .loop .inv) (l .before .before .pre .1) (omega arith) (c .may-go .ensures)
+
+same-length : tie.Need-same-length Inv-loop μ-loop
+same-length c = c .before .loop .inv .long
 
 returns : tie.Need-returns Inv-loop μ-loop
 returns c = row-end (c .before .loop .inv) (c .loop-test .left)
@@ -66,8 +71,9 @@ fill-row-spec =
     mul-there
     element-copy-out-there
     may-go-requires
-    element-write-moves
+    slice-write-moves
     add-m
     loop-less
     loop-again
+    same-length
     returns)

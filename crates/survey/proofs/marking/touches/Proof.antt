@@ -1,5 +1,5 @@
 -- `survey::marking::touches` meets its contract. Assumes nothing.
-use Rattle.survey.proofs.Bands.{touching}
+use Rattle.survey.proofs.Bands.{let-through}
 use borrow.Author.Needs.{needs}
 use Rattle.survey.proofs.marking.touches.Statement.{statement}
 use Rattle.survey.proofs.marking.touches.Tie as tie
@@ -23,7 +23,7 @@ returns-2 : tie.Need-returns-2
 returns-2 c = search needs
 
 returns-3 : tie.Need-returns-3
-returns-3 c = touching _ _ _
+returns-3 c = let-through _ _ _
 
 pub touches-spec : {M : Type 1} → statement M
 touches-spec =

@@ -1,0 +1,59 @@
+-- Sound records are passed over. Assumes nothing.
+use mathlib.Core.Path.{_≡_, refl, sym, _∙_, ap}
+use mathlib.Core.Bool.{Bool, true, false, false≢true}
+use mathlib.Core.List.{List}
+use Prim.Native.Nat.{ℕ, zero, suc, _+_, _*_, _/_, _≤_, _<_}
+use native.Mathlib.Numerals.{add-one}
+use native.Mathlib.Omega.{arith}
+use Rattle.wire.specs.Be.{be}
+use Rattle.stations.specs.Image.{stationFrom, stationAt, version, verdict, scanned}
+use Rattle.stations.specs.Scanning.{idBefore, scannedFrom, Ahead, Passed, SoundTo}
+use Rattle.stations.specs.Version.{top}
+use Rattle.stations.specs.declared.Station.{Station}
+use Rattle.stations.specs.declared.Verdict.{Verdict}
+use Rattle.stations.specs.declared.Verdict.the-variants.{Sound}
+use Rattle.stations.proofs.Table.{Whole, scan-on}
+use Rattle.stations.proofs.Fine.{fine}
+use Rattle.stations.proofs.Back.{sound}
+
+module _ (s : List ℕ) where
+  pub record-at : (at : ℕ) → at ≡ 8 + 16 * (at / 16) → stationFrom s at ≡ stationAt s (at / 16)
+  unfolding stationAt
+  record-at at e = ap (stationFrom s) e
+
+  -- the id of a record is the one before the next place
+  pub id-next : (at to : ℕ) → at ≡ 8 + 16 * (at / 16) → to ≡ at + 16 → be 4 s at ≡ idBefore s (to / 16)
+  id-next at to e f =
+      let k : to / 16 ≡ at / 16 + 1 = omega (arith, e, f) in
+      rw (k, add-one) (ap (λ r. r .id) (record-at at e))
+
+  pub ahead-next : (n k at to id : ℕ) → at ≡ 8 + 16 * (at / 16) → at / 16 + 1 + k ≤ n → to ≡ at + 16 → id ≡ be 4 s at → Ahead s n k to id
+  ahead-next n k at to id e h f g = record {
+    placed = omega (arith, e, f);
+    within = omega (arith, e, f, h);
+    before = g ∙ id-next at to e f;
+  }
+
+  pub none-passed : (i k : ℕ) → Passed s i k false
+  none-passed i k = record { sound = λ e. absurd (false≢true e) }
+
+  -- a sound record, and the next one
+  pub two-passed : (i j : ℕ) (b : Bool) → j ≡ i + 1 → Passed s i 1 true → Passed s j 1 b → Passed s i 2 b
+  two-passed i j b e p q =
+      let f : j + 1 ≡ i + 2 = omega (arith, e) in
+      record { sound = λ t. p .sound refl ∙ ap (scannedFrom s) (sym e) ∙ q .sound t ∙ ap (scannedFrom s) f }
+
+  pub sound-start : scanned s ≡ scannedFrom s 0
+  unfolding scanned scannedFrom
+  sound-start = refl
+
+pub one-passed : {s : List ℕ} {n : ℕ} → Whole s n → (t at last : ℕ) (r : Station) (v : Verdict) → t ≡ top (version s) → Ahead s n 1 at last → r ≡ stationFrom s at → v ≡ verdict t last 0 r → v ≡ Sound → Passed s (at / 16) 1 true
+unfolding scannedFrom
+one-passed {s} {n} w t at last r v et a er ev e =
+    let i = at / 16 in
+    let q : r ≡ stationAt s i = er ∙ record-at s at (a .placed) in
+    let y : verdict t last 0 r ≡ Sound = sym ev ∙ e in
+    let z : verdict (top (version s)) (idBefore s i) 0 (stationAt s i) ≡ Sound = rw (et, a .before, q) at y in
+    let h : i < n = omega (arith, a .within) in
+    let b : idBefore s (i + 1) ≡ stationAt s i .id = rw add-one in
+    record { sound = λ _. rw b (scan-on w (top (version s)) i (idBefore s i) h (sym (sound _ _ i _ (fine _ _ 0 _ z)))) }

@@ -1,0 +1,34 @@
+-- The records of a table judged from a position on, and what a pass over some of them says. Assumes nothing.
+use mathlib.Core.Path.{_≡_}
+use mathlib.Core.Bool.{Bool, true}
+use mathlib.Core.List.{List}
+use Prim.Native.Nat.{ℕ, zero, suc, _+_, _*_, _/_, _≤_}
+use lib.ListN.{drop}
+use Rattle.stations.specs.Image.{stationAt, stations, version, scan, scanned}
+use Rattle.stations.specs.Version.{top}
+use Rattle.stations.specs.declared.Judged.{Judged}
+
+-- the id before a position; 0 before the first
+abbrev pub idBefore : List ℕ → ℕ → ℕ
+idBefore s zero = 0
+idBefore s (suc i) = stationAt s i .id
+
+-- the records from a position on, each in turn
+unfoldable pub scannedFrom : List ℕ → ℕ → Judged
+scannedFrom s i = scan (top (version s)) i (idBefore s i) (drop i (stations s))
+
+-- k records from a place on are among the n; `last` is the id before them
+pub record Ahead (s : List ℕ) (n k at last : ℕ) : Type 0 where
+  pub placed : at ≡ 8 + 16 * (at / 16)
+  pub within : at / 16 + k ≤ n
+  pub before : last ≡ idBefore s (at / 16)
+
+-- b says of the k records from a position on that nothing is wrong with them
+pub record Passed (s : List ℕ) (i k : ℕ) (b : Bool) : Type 0 where
+  pub sound : b ≡ true → scannedFrom s i ≡ scannedFrom s (i + k)
+
+-- nothing is wrong with the records before a place
+pub record SoundTo (s : List ℕ) (n at : ℕ) : Type 0 where
+  pub placed : at ≡ 8 + 16 * (at / 16)
+  pub within : at / 16 ≤ n
+  pub sound : scanned s ≡ scannedFrom s (at / 16)
