@@ -96,9 +96,10 @@ fn list_with(
     requires { ⌜ (Down 0 (now moves)) × (Room first last (now moves)) ⌝ }
     ensures { λ r. ⌜ Answered (grant (flat (arrangements (scene everyRecord (now (table .entry)) n class lat lon) first last))) (now (rows .entry)) (now (rows .exit)) r ⌝ }
 {
+    let near = spacing::limits_of(class, lat);
     let mut marks = [0u16; 80];
-    survey::survey(table, n, class, lat, lon, first, last, &mut marks);
-    plan(table, n, class, lat, lon, first, last, &marks, moves);
+    survey::survey(table, n, class, &near, lat, lon, first, last, &mut marks);
+    plan(table, n, class, &near, lat, lon, first, last, &marks, moves);
     let mut none = [0u32; 1];
     let need = list(table, n, first, last, &marks, moves, &mut none);
     if rows.len() < need {

@@ -108,7 +108,8 @@ fn keep(table: &[u8], n: usize, mark: u16, whose: u16, kept: &mut [u16; 80])
     let theirs = r.class as usize;
     let lat2 = r.latitude;
     let lon2 = r.longitude;
-    survey::survey(table, n, theirs, lat2, lon2, 221, 300, kept)
+    let near = spacing::limits_of(theirs, lat2);
+    survey::survey(table, n, theirs, &near, lat2, lon2, 221, 300, kept)
 }
 
 // The flags of one new channel, whose lone blocker is movable.
@@ -174,6 +175,7 @@ pub fn plan(
     table: &[u8],
     n: usize,
     class: usize,
+    near: &[u64; 48],
     lat: i32,
     lon: i32,
     first: usize,
@@ -182,11 +184,10 @@ pub fn plan(
     moves: &mut [bool],
 )
     requires { ⌜ judged (now table) ≡ Table n ⌝ }
-    requires { ⌜ (Sound class lat lon) × ((221 ≤ first) × ((first ≤ last) × (last ≤ 300))) ⌝ }
+    requires { ⌜ (Limits tableA class (now near)) × ((Sound class lat lon) × ((221 ≤ first) × ((first ≤ last) × (last ≤ 300)))) ⌝ }
     requires { ⌜ (Marked (scene everyRecord (now table) n class lat lon .new) first last n (now marks)) × ((Down 0 (now moves)) × (Room first last (now moves))) ⌝ }
     ensures { λ _. ⌜ Planned (scene everyRecord (now (table .entry)) n class lat lon) first (suc last) (now (moves .exit)) ⌝ }
 {
-    let near = spacing::limits_of(class, lat);
     let mut kept = [0u16; 80];
     let mut whose: u16 = 0;
     let mut c = first;
@@ -197,7 +198,7 @@ pub fn plan(
             table,
             n,
             class,
-            &near,
+            near,
             lat,
             lon,
             first,

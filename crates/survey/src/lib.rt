@@ -74,6 +74,7 @@ pub fn survey(
     table: &[u8],
     n: usize,
     class: usize,
+    near: &[u64; 48],
     lat: i32,
     lon: i32,
     first: usize,
@@ -81,11 +82,10 @@ pub fn survey(
     marks: &mut [u16; 80],
 )
     requires { ⌜ judged (now table) ≡ Table n ⌝ }
-    requires { ⌜ (Sound class lat lon) × ((length (now marks) ≡ 80) × ((221 ≤ first) × (last ≤ 300))) ⌝ }
+    requires { ⌜ (Near tableA class lat (now near)) × ((Sound class lat lon) × ((length (now marks) ≡ 80) × ((221 ≤ first) × (last ≤ 300)))) ⌝ }
     ensures { λ _. ⌜ Marked (λ m j. blocks everyRecord (now (table .entry)) (assignment m class lat lon) j) first last n (now (marks .exit)) ⌝ }
 {
     wipe(marks);
-    let near = spacing::limits_of(class, lat);
     let touched = touching(first, last);
     let mut i: usize = 0;
     while i < n {
@@ -94,7 +94,7 @@ pub fn survey(
             n,
             i,
             class,
-            &near,
+            near,
             lat,
             lon,
             first,

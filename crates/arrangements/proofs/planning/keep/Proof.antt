@@ -31,16 +31,22 @@ station-at-requires c κs = let s = c .before .before in room-at _ _ (s .pre .0)
 cast-theirs : tie.Need-cast-theirs
 cast-theirs c = search needs
 
+limits-of-requires : tie.Need-limits-of-requires
+limits-of-requires c κs =
+    let k = known (c .before .before .before) in
+    simp (toZ-ofZ (lat-fits (k .sound))) (k .sound .known, k .sound .placed .north)
+
 survey-requires : tie.Need-survey-requires
 survey-requires c κs =
-    let r = c .before .before .before .before in
+    let l = c .before .before in
+    let r = l .before .before .before .before in
     let s = r .before .before .before in
     let k = known r in
-    simp (toZ-ofZ (lat-fits (k .sound)), toZ-ofZ (lon-fits (k .sound))) (s .pre .0, (k .sound, (s .pre .1 .0 .long, (omega arith, omega arith))))
+    simp (toZ-ofZ (lat-fits (k .sound)), toZ-ofZ (lon-fits (k .sound))) (s .pre .0, (simp (toZ-ofZ (lat-fits (k .sound))) at (l .limits-of .ensures), (k .sound, (s .pre .1 .0 .long, (omega arith, omega arith)))))
 
 returns-2 : tie.Need-returns-2
 returns-2 c =
-    let r = c .before .before .before .before .before in
+    let r = c .before .before .before .before .before .before .before in
     let k = at (r .before .before .before) in
     let m = simp (r .station-at .ensures, toZ-ofZ (lat-fits (k .sound)), toZ-ofZ (lon-fits (k .sound))) at (c .survey .ensures) in
     record { long = m .long; of = λ h. m }
@@ -48,4 +54,4 @@ returns-2 c =
 pub keep-spec : {M : Type 1} → statement M
 keep-spec =
     tie.close
-    (tie.spec returns sub-station-at station-at-requires cast-theirs survey-requires returns-2)
+    (tie.spec returns sub-station-at station-at-requires cast-theirs limits-of-requires survey-requires returns-2)

@@ -14,19 +14,16 @@ use Rattle.arrangements.proofs.planning.plan.Statement.{statement}
 use Rattle.arrangements.proofs.planning.plan.Tie as tie
 
 abbrev Inv-loop : tie.InvT-loop
-Inv-loop table n class lat lon first last marks moves₀ near kept₀ whose₀ c₀ moves kept whose c =
+Inv-loop table n class near lat lon first last marks moves₀ kept₀ whose₀ c₀ moves kept whose c =
     (first ≤ c) × (c ≤ last + 1) × (length moves ≡ length moves₀) × Kept everyRecord table n whose kept
     × Planned (scene everyRecord table n class (toZ w32 lat) (toZ w32 lon)) first c moves
 
 abbrev μ-loop : tie.MeasureT-loop
-μ-loop table n class lat lon first last marks moves₀ near kept₀ whose₀ c₀ moves kept whose c = last + 1 - c
-
-limits-of-requires : tie.Need-limits-of-requires Inv-loop μ-loop
-limits-of-requires c κs = let s = c .before .before in (s .pre .1 .0 .0 .known, simp (toZ-ofZ (s .fits .lat)) (s .pre .1 .0 .0 .placed .north))
+μ-loop table n class near lat lon first last marks moves₀ kept₀ whose₀ c₀ moves kept whose c = last + 1 - c
 
 loop-holds : tie.Need-loop-holds Inv-loop μ-loop
 loop-holds c =
-    let s = c .before .before .before in
+    let s = c .before .before in
     (omega arith, omega arith, refl, record { long = refl; of = λ h. absurd (omega arith) }, plan-start _ _ _ (s .pre .1 .1 .1 .0))
 
 sub-k : tie.Need-sub-k Inv-loop μ-loop
@@ -40,11 +37,11 @@ element-copy-out-mark c = omega arith
 
 turn-requires : tie.Need-turn-requires Inv-loop μ-loop
 turn-requires c κs =
-    let a = c .before .before .before .before .before in
+    let a = c .before .before .before .before in
     let l = a .loop in
-    let s = a .before .before .before .before in
+    let s = a .before .before .before in
     simp (toZ-ofZ (s .fits .lat), toZ-ofZ (s .fits .lon))
-    (s .pre .0, ((a .before .limits-of .ensures .limits, (s .pre .1 .0 .0, (omega arith, (omega arith, omega (arith, l .inv .2, s .pre .1 .1 .1 .1))))), (s .pre .1 .1 .0 .at (l .c) (omega arith) (omega arith), (l .inv .3, l .inv .4 .down))))
+    (s .pre .0, ((s .pre .1 .0 .0, (s .pre .1 .0 .1 .0, (omega arith, (omega arith, omega (arith, l .inv .2, s .pre .1 .1 .1 .1))))), (s .pre .1 .1 .0 .at (l .c) (omega arith) (omega arith), (l .inv .3, l .inv .4 .down))))
 
 add-c : tie.Need-add-c Inv-loop μ-loop
 add-c c = omega arith
@@ -55,9 +52,9 @@ loop-less c = omega arith
 loop-again : tie.Need-loop-again Inv-loop μ-loop
 loop-again c =
     let u = c .before .before in
-    let i = u .before .before .before .before .before in
+    let i = u .before .before .before .before in
     let l = i .before .loop in
-    let s = i .before .before .before .before .before in
+    let s = i .before .before .before .before in
     (omega arith, omega (arith, i .loop-test .taken), omega (arith, u .turn .kept, l .inv .2), u .turn .ensures .0, planned-turn _ _ _ _ _ (l .inv .0) (simp (toZ-ofZ (s .fits .lat), toZ-ofZ (s .fits .lon)) (s .pre .1 .1 .0 .at (l .c) (omega arith) (omega (arith, i .loop-test .taken)))) (l .inv .4) (u .turn .ensures .1))
 
 same-length : tie.Need-same-length Inv-loop μ-loop
@@ -65,7 +62,7 @@ same-length c = c .before .loop .inv .2
 
 returns : tie.Need-returns Inv-loop μ-loop
 returns c =
-    let s = c .before .before .before .before .before in
+    let s = c .before .before .before .before in
     let l = c .before .loop in
     let e : l .c ≡ suc (s .args .last) = omega arith in
     simp (toZ-ofZ (s .fits .lat), toZ-ofZ (s .fits .lon), e) at (l .inv .4)
@@ -76,7 +73,6 @@ plan-spec =
     (tie.spec
     Inv-loop
     μ-loop
-    limits-of-requires
     loop-holds
     sub-k
     mul-mark
