@@ -5,9 +5,10 @@ mod version;
 mod writing;
 
 pub use judging::judge;
-pub use reading::channel_at;
+pub use reading::channel_from;
 pub use reading::is_movable;
 pub use reading::place_of;
+pub use reading::record_from;
 pub use reading::station_at;
 use refusals::Refusal;
 pub use version::is_full;
@@ -39,8 +40,8 @@ pub enum Verdict {
 
 const MARK: [u8; 3] = *b"FMS";
 
-const HEADER: usize = 8;
+pub const HEADER: usize = 8;
 
-const RECORD: usize = 16;
+pub const RECORD: usize = 16;
 
 const TWO_RECORDS: usize = 32;

@@ -38,12 +38,11 @@ pub fn station_at(table: &[u8], i: usize) -> Station
     record_from(table, at)
 }
 
-// The channel of the record at a position.
-pub fn channel_at(table: &[u8], i: usize) -> u16
-    requires { ⌜ 8 + 16 * i + 16 ≤ length (now table) ⌝ }
-    ensures { λ r. ⌜ r ≡ stationAt (now (table .entry)) i .channel ⌝ }
+// The channel of the record whose bytes begin at a place.
+pub fn channel_from(table: &[u8], at: usize) -> u16
+    requires { ⌜ at + 16 ≤ length (now table) ⌝ }
+    ensures { λ r. ⌜ r ≡ stationFrom (now (table .entry)) at .channel ⌝ }
 {
-    let at = HEADER + RECORD * i;
     wire::get16(table, at + 4)
 }
 

@@ -3,7 +3,7 @@ use mathlib.Core.Path.{_≡_, refl, sym, _∙_}
 use mathlib.Core.Bool.{Bool, true, false, _&&_, _||_, true≢false, or-true, or-false, and-true, and-false, or-assoc}
 use mathlib.Core.List.{List}
 use mathlib.Core.Logic.{_⊎_, inl, inr, ⊎-elim}
-use Prim.Native.Nat.{ℕ, _+_, _-_, _≤_, _<_, max, min}
+use Prim.Native.Nat.{ℕ, _%_, _+_, _-_, _≤_, _<_, max, min}
 use native.Mathlib.Omega.{arith}
 use native.Mathlib.Decide.{ℕ-discrete, decLt}
 use lib.Dec.{leb, ltb, eqb}
@@ -151,20 +151,20 @@ untouched c first last r f = record { none-of = λ q m a b. let h = f q m a b in
 
 -- the channels from 201 on that are below c are told
 pub record Told (first last : ℕ) (t : List Bool) (c : ℕ) : Type 0 where
-  pub long : length t ≡ 301
+  pub long : length t ≡ 256
   pub low : 201 ≤ c
-  pub at : (x : ℕ) → 201 ≤ x → x < c → Touches x first last (getD t x false)
+  pub at : (x : ℕ) → 201 ≤ x → x < c → Touches x first last (getD t (x % 256) false)
 
-pub told-start : (first last : ℕ) (t : List Bool) → length t ≡ 301 → Told first last t 201
+pub told-start : (first last : ℕ) (t : List Bool) → length t ≡ 256 → Told first last t 201
 told-start first last t e = record { long = e; low = omega arith; at = λ x lo hi. absurd (omega arith) }
 
-pub told-turn : {first last c : ℕ} {t : List Bool} {v : Bool} → Told first last t c → c ≤ 300 → Touches c first last v → Told first last (set t c v) (c + 1)
+pub told-turn : {first last c : ℕ} {t : List Bool} {v : Bool} → Told first last t c → c ≤ 300 → Touches c first last v → Told first last (set t (c % 256) v) (c + 1)
 told-turn {first} {last} {c} {t} {v} w h e =
-    record { long = length-set t c v ∙ w .long; low = omega (arith, w .low); at = λ x lo hi. go x lo hi (ℕ-discrete x c) }
+    record { long = length-set t (c % 256) v ∙ w .long; low = omega (arith, w .low); at = λ x lo hi. go x lo hi (ℕ-discrete x c) }
   where
-    go : (x : ℕ) → 201 ≤ x → x < c + 1 → Dec (x ≡ c) → Touches x first last (getD (set t c v) x false)
-    go x lo hi (yes p) = rw (p, getD-set-same t c v false (omega (arith, w .long))) e
-    go x lo hi (no np) = rw (getD-set-other t c x v false (λ p. np (omega arith))) (w .at x lo (omega arith))
+    go : (x : ℕ) → 201 ≤ x → x < c + 1 → Dec (x ≡ c) → Touches x first last (getD (set t (c % 256) v) (x % 256) false)
+    go x lo hi (yes p) = rw (p, getD-set-same t (c % 256) v false (omega (arith, w .long))) e
+    go x lo hi (no np) = rw (getD-set-other t (c % 256) (x % 256) v false (λ p. np (omega (arith, w .low)))) (w .at x lo (omega arith))
 
 pub told-end : {first last c : ℕ} {t : List Bool} → Told first last t c → 300 < c → Touching first last t
 told-end w h = record { long = w .long; at = λ x lo hi. w .at x lo (omega arith) }

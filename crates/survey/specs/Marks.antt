@@ -2,7 +2,7 @@
 use mathlib.Core.Path.{_≡_}
 use mathlib.Core.Bool.{Bool, false, cond}
 use mathlib.Core.List.{List}
-use Prim.Native.Nat.{ℕ, zero, suc, _+_, _-_, _≤_, _<_}
+use Prim.Native.Nat.{ℕ, _%_, zero, suc, _+_, _-_, _≤_, _<_}
 use lib.Dec.{eqb}
 use lib.ListN.{length, getD}
 use Rattle.part73.specs.Columns.{gap, none, column}
@@ -38,7 +38,7 @@ pub record Wiped (marks : List ℕ) : Type 0 where
 pub record Touches (c first last : ℕ) (r : Bool) : Type 0 where
   pub none-of : r ≡ false → (m : ℕ) → first ≤ m → m ≤ last → column (gap m c) ≡ none
 
--- t tells so of each channel from 201 to 300, at its number
+-- t tells so of each channel from 201 to 300, at the last byte of its number, which no other of them has
 pub record Touching (first last : ℕ) (t : List Bool) : Type 0 where
-  pub long : length t ≡ 301
-  pub at : (c : ℕ) → 201 ≤ c → c ≤ 300 → Touches c first last (getD t c false)
+  pub long : length t ≡ 256
+  pub at : (c : ℕ) → 201 ≤ c → c ≤ 300 → Touches c first last (getD t (c % 256) false)

@@ -137,15 +137,15 @@ fn below(c: usize, first: usize, last: usize) -> bool
     first <= c - 53
 }
 
-// For each channel whether it may have a requirement against one from first to last.
-pub fn touching(first: usize, last: usize) -> [bool; 301]
+// For each channel, at its number's last byte, whether it may have a requirement against one from first to last.
+pub fn touching(first: usize, last: usize) -> [bool; 256]
     requires { ⌜ last ≤ 300 ⌝ }
     ensures { λ r. ⌜ Touching first last r ⌝ }
 {
-    let mut touched = [false; 301];
+    let mut touched = [false; 256];
     let mut c: usize = 201;
     while c <= 300 {
-        touched[c] = touches(c, first, last);
+        touched[c % 256] = touches(c, first, last);
         c += 1;
     }
     touched
