@@ -4,12 +4,11 @@ ghost use Prim.Native.Nat.{_+_, _*_, _≤_, _<_};
 ghost use lib.ListN.{length};
 ghost use Rattle.programs.specs.Told.{Within};
 
-mod asking;
 mod lines;
 
-pub use asking::asked_arrange;
-pub use asking::asked_change;
-pub use asking::asked_check;
+use asking::asked_arrange;
+use asking::asked_change;
+use asking::asked_check;
 use desk::Answer;
 use lines::LINE;
 use lines::put_refusal;

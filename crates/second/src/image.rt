@@ -1,9 +1,9 @@
 // The image of a changed table, written into a second buffer.
-use super::stations::Station;
-use super::wire::copy;
-use super::wire::put_four;
-use super::wire::put_one;
-use super::wire::put_two;
+use super::big_endian::copy;
+use super::big_endian::put_four;
+use super::big_endian::put_one;
+use super::big_endian::put_two;
+use super::records::Station;
 ghost use Prim.Native.Nat.{_≤_};
 
 // The bytes of an image of n stations.

@@ -11,13 +11,13 @@ use super::answer::RECORD_LATITUDE;
 use super::answer::RECORD_LONGITUDE;
 use super::answer::SIXTH_BYTE;
 use super::answer::UNDER_EIGHT_BYTES;
+use super::big_endian::one;
+use super::big_endian::two;
+use super::records::Station;
+use super::records::id_at;
+use super::records::station_at;
 use super::sites::LATITUDES;
 use super::sites::LONGITUDES;
-use super::stations::Station;
-use super::stations::id_at;
-use super::stations::station_at;
-use super::wire::one;
-use super::wire::two;
 ghost use Prim.Native.Nat.{_≤_};
 
 // The most stations that a table holds.

@@ -1,8 +1,8 @@
 // Who is short to whom.
+use super::records::Station;
+use super::records::station_at;
 use super::separation::separation;
 use super::sites::kilometres;
-use super::stations::Station;
-use super::stations::station_at;
 ghost use Prim.Native.Nat.{_≤_};
 
 // Whether two stations are short: D below R.

@@ -4,12 +4,12 @@ use super::answer::ASKED_CLASS;
 use super::answer::ASKED_SITE;
 use super::answer::ASKED_ZONE;
 use super::answer::NOT_PERMITTED;
+use super::big_endian::word;
+use super::records::Station;
+use super::records::east;
+use super::records::north;
 use super::sites::LATITUDES;
 use super::sites::LONGITUDES;
-use super::stations::Station;
-use super::stations::east;
-use super::stations::north;
-use super::wire::word;
 ghost use Prim.Native.Nat.{_≤_};
 
 // Whether a site is out of range.

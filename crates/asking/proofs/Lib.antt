@@ -1,0 +1,3 @@
+pub mod Inputs
+pub mod Fitting
+pub mod OneByOne

@@ -1,0 +1,168 @@
+// From the whole input of a program to its question: what is proposed stands first, the table after it.
+ghost use mathlib.Core.Path.{_≡_};
+ghost use Rattle.desk.specs.Answers.{Answered};
+ghost use Rattle.asking.specs.Asking.{checkInput, arrangeInput, addInput, withdrawInput, moveInput, changeInput, proposalOf, wantedOf, newcomerOf};
+ghost use Rattle.wire.specs.Be.{be};
+ghost use lib.ListN.{length};
+ghost use Prim.Native.Nat.{_≤_, _<_};
+use arrangements::Wanted;
+use changes::Newcomer;
+use checks::Proposal;
+use desk::Answer;
+
+// The letters that name a change: `a`, `w`, `m`.
+const ADD: u32 = 97;
+
+const WITHDRAW: u32 = 119;
+
+const MOVE: u32 = 109;
+
+// The answer to input that ends before the table, or that names no change.
+fn ends_early() -> Answer
+    ensures { λ r. ⌜ r ≡ Answer.Refused (record { number = 1; extra = 0 }) ⌝ }
+{
+    desk::refused(refusals::UNDER_EIGHT_BYTES)
+}
+
+// The number of 8 bits at a place.
+fn get8(input: &[u8], at: usize) -> u32
+    requires { ⌜ at < length (now input) ⌝ }
+    ensures { λ r. ⌜ r ≡ be 1 (now (input .entry)) at ⌝ }
+{
+    input[at] as u32
+}
+
+// What a check proposes: channel, class, zone, latitude, longitude.
+fn proposal(input: &[u8]) -> Proposal
+    requires { ⌜ 12 ≤ length (now input) ⌝ }
+    ensures { λ r. ⌜ r ≡ proposalOf (now (input .entry)) ⌝ }
+{
+    let channel = wire::get16(input, 0) as u32;
+    let class = get8(input, 2);
+    let zone = get8(input, 3);
+    let latitude = wire::get_i32(input, 4);
+    let longitude = wire::get_i32(input, 8);
+    Proposal {
+        channel,
+        class,
+        zone,
+        latitude,
+        longitude,
+    }
+}
+
+// What is wanted on one new channel: class, zone, latitude, longitude.
+fn wanted(input: &[u8], channel: u32) -> Wanted
+    requires { ⌜ 10 ≤ length (now input) ⌝ }
+    ensures { λ r. ⌜ r ≡ wantedOf channel (now (input .entry)) ⌝ }
+{
+    let class = get8(input, 0);
+    let zone = get8(input, 1);
+    let latitude = wire::get_i32(input, 2);
+    let longitude = wire::get_i32(input, 6);
+    Wanted {
+        first: channel,
+        last: channel,
+        class,
+        zone,
+        latitude,
+        longitude,
+    }
+}
+
+// What is to be added, after the letter: id, channel, class, zone, latitude, longitude.
+fn newcomer(input: &[u8]) -> Newcomer
+    requires { ⌜ 17 ≤ length (now input) ⌝ }
+    ensures { λ r. ⌜ r ≡ newcomerOf (now (input .entry)) ⌝ }
+{
+    let id = wire::get32(input, 1);
+    let channel = wire::get16(input, 5) as u32;
+    let class = get8(input, 7);
+    let zone = get8(input, 8);
+    let latitude = wire::get_i32(input, 9);
+    let longitude = wire::get_i32(input, 13);
+    Newcomer {
+        id,
+        channel,
+        class,
+        zone,
+        latitude,
+        longitude,
+    }
+}
+
+// Check: 12 bytes, and the table.
+pub fn asked_check(input: &[u8], rows: &mut [u32]) -> Answer
+    ensures { λ r. ⌜ Answered (checkInput (now (input .entry))) (now (rows .entry)) (now (rows .exit)) r ⌝ }
+{
+    if input.len() < 12 {
+        return ends_early();
+    }
+    let proposed = proposal(input);
+    checks::check(&input[12..], proposed, rows)
+}
+
+// Arrange, for one new channel: 10 bytes, and the table.
+pub fn asked_arrange(input: &[u8], channel: u32, rows: &mut [u32]) -> Answer
+    ensures { λ r. ⌜ Answered (arrangeInput channel (now (input .entry))) (now (rows .entry)) (now (rows .exit)) r ⌝ }
+{
+    if input.len() < 10 {
+        return ends_early();
+    }
+    let asked = wanted(input, channel);
+    arrangements::arrange(&input[10..], asked, rows)
+}
+
+// Add: the letter, 16 bytes, and the table.
+fn asked_add(input: &[u8], image: &mut [u8]) -> Answer
+    ensures { λ r. ⌜ Answered (addInput (now (input .entry))) (now (image .entry)) (now (image .exit)) r ⌝ }
+{
+    if input.len() < 17 {
+        return ends_early();
+    }
+    let new = newcomer(input);
+    changes::add(&input[17..], new, image)
+}
+
+// Withdraw: the letter, 4 bytes, and the table.
+fn asked_withdraw(input: &[u8], image: &mut [u8]) -> Answer
+    ensures { λ r. ⌜ Answered (withdrawInput (now (input .entry))) (now (image .entry)) (now (image .exit)) r ⌝ }
+{
+    if input.len() < 5 {
+        return ends_early();
+    }
+    let id = wire::get32(input, 1);
+    changes::withdraw(&input[5..], id, image)
+}
+
+// Move: the letter, 6 bytes, and the table.
+fn asked_move(input: &[u8], image: &mut [u8]) -> Answer
+    ensures { λ r. ⌜ Answered (moveInput (now (input .entry))) (now (image .entry)) (now (image .exit)) r ⌝ }
+{
+    if input.len() < 7 {
+        return ends_early();
+    }
+    let id = wire::get32(input, 1);
+    let channel = wire::get16(input, 5) as u32;
+    changes::move_to(&input[7..], id, channel, image)
+}
+
+// A change: the letter that names it says what follows.
+pub fn asked_change(input: &[u8], image: &mut [u8]) -> Answer
+    ensures { λ r. ⌜ Answered (changeInput (now (input .entry))) (now (image .entry)) (now (image .exit)) r ⌝ }
+{
+    if input.len() == 0 {
+        return ends_early();
+    }
+    let letter = get8(input, 0);
+    if letter == ADD {
+        return asked_add(input, image);
+    }
+    if letter == WITHDRAW {
+        return asked_withdraw(input, image);
+    }
+    if letter == MOVE {
+        return asked_move(input, image);
+    }
+    ends_early()
+}

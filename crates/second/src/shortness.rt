@@ -1,0 +1,83 @@
+// The question check.
+use super::answer::NO_ROOM;
+use super::answer::refused;
+use super::judgement::judge;
+use super::proposal::fault;
+use super::proposal::proposed;
+use super::records::Station;
+use super::records::station_at;
+use super::rows::put_row;
+use super::separation::separation;
+use super::sites::kilometres;
+ghost use Prim.Native.Nat.{_+_, _≤_};
+ghost use Rattle.second.specs.Answer.{Packed};
+
+// Writes the row of a station if it is short to the proposal, and gives the place behind it.
+fn put_short(new: Station, s: Station, rows: &mut [u32], at: usize) -> usize
+    requires { ⌜ at ≤ 1000000000 ⌝ }
+    ensures { λ r. ⌜ r ≤ at + 3 ⌝ }
+{
+    let r = separation(new.channel, new.class, s.channel, s.class);
+    if r == 0 {
+        return at;
+    }
+    let d = kilometres(new.north, new.east, s.north, s.east);
+    if r <= d {
+        return at;
+    }
+    put_row(rows, at, s.id, d, r)
+}
+
+// Writes the rows of all short stations where there is room, and gives how many numbers they are.
+fn put_check(table: &[u8], n: usize, new: Station, rows: &mut [u32]) -> usize
+    requires { ⌜ n ≤ 2000 ⌝ }
+    ensures { λ r. ⌜ r ≤ 6000 ⌝ }
+{
+    let mut at: usize = 0;
+    let mut i: usize = 0;
+    while i < n {
+        at = put_short(new, station_at(table, i), rows, at);
+        i += 1;
+    }
+    at
+}
+
+// How many numbers the rows of all short stations are.
+fn count_check(table: &[u8], n: usize, new: Station) -> usize
+    requires { ⌜ n ≤ 2000 ⌝ }
+    ensures { λ r. ⌜ r ≤ 6000 ⌝ }
+{
+    let mut none = [0u32; 1];
+    put_check(table, n, new, &mut none)
+}
+
+// The rows id, D, R of the stations that are short to a proposal.
+pub fn check(
+    table: &[u8],
+    channel: u32,
+    class: u32,
+    zone: u32,
+    lat: i32,
+    lon: i32,
+    rows: &mut [u32],
+) -> u64
+    ensures { λ r. do ⌜ Packed (← ⟦rows.len()⟧ .entry) r ⌝ }
+{
+    let judged = judge(table);
+    let number = judged.number;
+    if number != 0 {
+        return refused(number, judged.extra);
+    }
+    let n = judged.stations;
+    let wrong = fault(channel, channel, class, zone, lat, lon);
+    if wrong != 0 {
+        return refused(wrong, 0);
+    }
+    let new = proposed(0, channel, class, lat, lon);
+    let need = count_check(table, n, new);
+    if rows.len() < need {
+        return refused(NO_ROOM, need as u64);
+    }
+    put_check(table, n, new, rows);
+    need as u64
+}
