@@ -1,4 +1,5 @@
-//! Read, Check and Arrange tuned by hand for few instructions, in safe Rust; answers are packed words.
+//! Read, Check and Arrange tuned by hand for few instructions, in safe Rust; answers are packed words. `EAST` says whether
+//! Arrange puts a record aside by its longitude alone too, as the library does, or by its latitude alone.
 
 use crate::question::{Answer, Proposal, Question};
 
@@ -386,26 +387,45 @@ impl Reach {
     }
 }
 
+/// A length that no degree of longitude falls below, at the mean of a latitude and any at most 9,500 seconds from it.
+fn least_scale(lat: i32) -> u64 {
+    let half_seconds = (2 * u64::from(lat.unsigned_abs()) + 9_500).min(540_000);
+    let x = half_seconds * 2_424_068_405_548 / E;
+    let least = E - x * x / E / 2;
+    1_114_151_300 * least / E - 2_842_500
+}
+
 /// A class at a site, from which the records are looked at.
-struct Lookout {
+struct Lookout<const EAST: bool> {
     limits: &'static Limits,
     lat: i32,
     lon: i32,
     /// The latitudes within which a station of the class that reaches farthest can be short: the first, and how many more.
     south: i32,
     span: u32,
+    /// The seconds of longitude that alone are enough, for each class.
+    east: [u32; 8],
 }
 
-impl Lookout {
-    fn new(class: usize, lat: i32, lon: i32) -> Lookout {
+impl<const EAST: bool> Lookout<EAST> {
+    fn new(class: usize, lat: i32, lon: i32) -> Self {
         let limits = &LIMITS[class & 7];
         let widest = limits[7][0].apart - 1;
+        let mut east = [0; 8];
+        if EAST {
+            let scale = least_scale(lat);
+            for (place, limit) in east.iter_mut().zip(limits) {
+                let decimetres = 10_000 * u64::from(limit[0].km) - 5_000;
+                *place = (decimetres * 3_600_000 / scale + 1) as u32;
+            }
+        }
         Lookout {
             limits,
             lat,
             lon,
             south: lat - widest as i32,
             span: 2 * widest,
+            east,
         }
     }
 
@@ -418,6 +438,9 @@ impl Lookout {
         }
         let limits = &self.limits[class(record)];
         if self.lat.abs_diff(lat) >= limits[0].apart {
+            return None;
+        }
+        if EAST && self.lon.abs_diff(lon(record)) >= self.east[class(record)] {
             return None;
         }
         let s = squared(self.lat, self.lon, lat, lon(record));
@@ -473,7 +496,7 @@ impl Survey {
 
 /// The survey of the asked channels, from a class and a site.
 #[inline(always)]
-fn survey(records: &[u8], asked: Channels, lookout: &Lookout) -> Survey {
+fn survey<const EAST: bool>(records: &[u8], asked: Channels, lookout: &Lookout<EAST>) -> Survey {
     let mut survey = Survey {
         taken: 0,
         many: 0,
@@ -498,8 +521,12 @@ fn survey(records: &[u8], asked: Channels, lookout: &Lookout) -> Survey {
 
 /// The channels of 221 to 300 that the others block for a record at its own site.
 #[inline(never)]
-fn blocked_for(records: &[u8], position: usize, record: &[u8; RECORD]) -> Channels {
-    let lookout = Lookout::new(class(record), lat(record), lon(record));
+fn blocked_for<const EAST: bool>(
+    records: &[u8],
+    position: usize,
+    record: &[u8; RECORD],
+) -> Channels {
+    let lookout = Lookout::<EAST>::new(class(record), lat(record), lon(record));
     let (before, after) = records.split_at(RECORD * position);
     lookout.blocked(before) | lookout.blocked(&after[RECORD..])
 }
@@ -514,14 +541,20 @@ enum Plan {
 
 /// The clean arrangements: new channel, id moved and its new channel of each.
 #[inline(never)]
-pub fn arrange(table: &[u8], first: u32, last: u32, proposal: &Proposal, rows: &mut [u32]) -> u64 {
-    match arranged(table, first, last, proposal, rows) {
+fn arrange<const EAST: bool>(
+    table: &[u8],
+    first: u32,
+    last: u32,
+    proposal: &Proposal,
+    rows: &mut [u32],
+) -> u64 {
+    match arranged::<EAST>(table, first, last, proposal, rows) {
         Ok(count) => count as u64,
         Err(refusal) => refusal,
     }
 }
 
-fn arranged(
+fn arranged<const EAST: bool>(
     table: &[u8],
     first: u32,
     last: u32,
@@ -530,7 +563,7 @@ fn arranged(
 ) -> Result<usize, u64> {
     let records = judge(table)?;
     judge_proposal(first, last, proposal)?;
-    let lookout = Lookout::new(proposal.station_class as usize, proposal.lat, proposal.lon);
+    let lookout = Lookout::<EAST>::new(proposal.station_class as usize, proposal.lat, proposal.lon);
     let every = (1 << 80) - 1;
     let asked: Channels = every >> (300 - last) & every << (first - 221);
     let survey = survey(records, asked, &lookout);
@@ -554,7 +587,7 @@ fn arranged(
             let (taken, reach) = match kept {
                 Some((whose, taken, reach)) if whose == position => (taken, reach),
                 _ => {
-                    let taken = blocked_for(records, position, record);
+                    let taken = blocked_for::<EAST>(records, position, record);
                     let reach = lookout.reach(record).expect("it stands in the way");
                     kept = Some((position, taken, reach));
                     (taken, reach)
@@ -603,8 +636,21 @@ fn write(first: u32, plans: &[Plan], rows: &mut [u32]) {
     }
 }
 
-/// A question that is tuned here: Read, Check or Arrange.
+/// A question that is tuned here: Read, Check or Arrange. Arrange puts records aside by latitude alone.
 pub fn ask(question: &Question, table: &[u8], rows: &mut [u32]) -> Option<Answer> {
+    answered::<false>(question, table, rows)
+}
+
+/// The same, where Arrange puts records aside by longitude alone too.
+pub fn ask_east(question: &Question, table: &[u8], rows: &mut [u32]) -> Option<Answer> {
+    answered::<true>(question, table, rows)
+}
+
+fn answered<const EAST: bool>(
+    question: &Question,
+    table: &[u8],
+    rows: &mut [u32],
+) -> Option<Answer> {
     let word = match question {
         Question::Read => read(table),
         Question::Check { channel, proposal } => check(table, *channel, proposal, rows),
@@ -612,7 +658,7 @@ pub fn ask(question: &Question, table: &[u8], rows: &mut [u32]) -> Option<Answer
             first,
             last,
             proposal,
-        } => arrange(table, *first, *last, proposal, rows),
+        } => arrange::<EAST>(table, *first, *last, proposal, rows),
         _ => return None,
     };
     Some(Answer::of(word))

@@ -4,7 +4,7 @@ use fms_bench::question::{Answer, Proposal, Question};
 use fms_bench::{fms, made, naive, tuned};
 use std::process::exit;
 
-const USAGE: &str = "usage: measure product|tuned|naive \
+const USAGE: &str = "usage: measure product|tuned|tuned-east|naive \
     read|check|arrange|arrange-one-by-one|add|withdraw|move 250|2000 SITES";
 
 /// Who answers.
@@ -12,6 +12,7 @@ const USAGE: &str = "usage: measure product|tuned|naive \
 enum Who {
     Product,
     Tuned,
+    TunedEast,
     Naive,
 }
 
@@ -20,6 +21,7 @@ impl Who {
         match name {
             "product" => Some(Who::Product),
             "tuned" => Some(Who::Tuned),
+            "tuned-east" => Some(Who::TunedEast),
             "naive" => Some(Who::Naive),
             _ => None,
         }
@@ -35,6 +37,7 @@ impl Who {
         match self {
             Who::Product => Some(fms::ask(question, table, image, rows)),
             Who::Tuned => tuned::ask(question, table, rows),
+            Who::TunedEast => tuned::ask_east(question, table, rows),
             Who::Naive => Some(naive::ask(question, table, image, rows)),
         }
     }

@@ -100,19 +100,24 @@ pub fn reference(
     outcome(naive::ask, question, table, image_room, rows_room)
 }
 
-/// What the tuned desk makes of it, where it is one of its questions.
-pub fn yardstick(question: &Question, table: &[u8], rows_room: usize) -> Option<Outcome> {
-    let ask: Ask =
+/// What the tuned desks make of it, where it is one of their questions.
+pub fn yardsticks(question: &Question, table: &[u8], rows_room: usize) -> Vec<Outcome> {
+    let by_latitude: Ask =
         |question, table, _, rows| tuned::ask(question, table, rows).expect("a tuned question");
+    let by_both: Ask = |question, table, _, rows| {
+        tuned::ask_east(question, table, rows).expect("a tuned question")
+    };
     match question {
         Question::Read | Question::Check { .. } | Question::Arrange { .. } => {
-            Some(outcome(ask, question, table, 0, rows_room))
+            [by_latitude, by_both]
+                .map(|ask| outcome(ask, question, table, 0, rows_room))
+                .into()
         }
-        _ => None,
+        _ => Vec::new(),
     }
 }
 
-/// Holds the library and the tuned desk against the naive one, with so much room.
+/// Holds the library and the tuned desks against the naive one, with so much room.
 pub fn agree_in(question: &Question, table: &[u8], image_room: usize, rows_room: usize) -> Outcome {
     let expected = reference(question, table, image_room, rows_room);
     let found = product(question, table, image_room, rows_room);
@@ -123,7 +128,7 @@ pub fn agree_in(question: &Question, table: &[u8], image_room: usize, rows_room:
         found.answer,
         expected.answer
     );
-    if let Some(found) = yardstick(question, table, rows_room) {
+    for found in yardsticks(question, table, rows_room) {
         assert!(
             found.answer == expected.answer && found.rows == expected.rows,
             "{question:?} with room for {rows_room} numbers\non {table:?}\ntuned {:?}\nnaive {:?}",
