@@ -1,20 +1,21 @@
 // Runs of made cases.
-use super::asking::first_id;
-use super::asking::made_question;
-use super::chance::below;
 use super::compare::compare;
 use super::compare::least;
-use super::damage::damaged;
-use super::image::Record;
-use super::question::ADD;
-use super::question::ARRANGE;
-use super::question::CHECK;
-use super::question::MOVE;
-use super::question::Question;
-use super::question::READ;
-use super::question::WITHDRAW;
-use super::tables::made_table;
-use super::words::Site;
+use super::tally::Notes;
+use cases::ADD;
+use cases::ARRANGE;
+use cases::CHECK;
+use cases::MOVE;
+use cases::Question;
+use cases::READ;
+use cases::Record;
+use cases::Site;
+use cases::WITHDRAW;
+use cases::below;
+use cases::damaged;
+use cases::first_id;
+use cases::made_question;
+use cases::made_table;
 ghost use Prim.Native.Nat.{_≤_};
 
 // Asked in a run in place of one question: every question on a table but arrange.
@@ -22,6 +23,9 @@ pub(crate) const ALL_BUT_ARRANGE: u32 = 7;
 
 // Asked in a run in place of one question: every question on a table.
 pub(crate) const ALL: u32 = 8;
+
+// Room for the longest table that is made.
+pub(crate) type Table = [u8; 32_100];
 
 // A run: how many cases, which question, at least how many records and how many more, their style, damaged or not.
 pub(crate) struct Run {
@@ -80,61 +84,21 @@ fn case_table(state: &mut u64, run: Run, q: Question, id: u32, n: u32, table: &m
 }
 
 // One made case.
-fn one_case(
-    run: Run,
-    state: &mut u64,
-    table: &mut [u8],
-    image1: &mut [u8],
-    image2: &mut [u8],
-    rows1: &mut [u32],
-    rows2: &mut [u32],
-    counts: &mut [u64],
-    digest: &mut u64,
-) -> bool {
+fn one_case(run: Run, state: &mut u64, table: &mut [u8], notes: &mut Notes) -> bool {
     let kind = kind_of(state, run.question);
     let n = (run.fewest % 2_002 + below(state, run.more % 2_002 + 1)) % 2_002;
     let id = first_id(state);
     let q = made_question(state, kind, id, n);
     let length = case_table(state, run, q, id, n, table);
     let end = least(length, table.len());
-    compare(
-        state,
-        q,
-        &table[..end],
-        image1,
-        image2,
-        rows1,
-        rows2,
-        counts,
-        digest,
-    )
+    compare(state, q, &table[..end], notes)
 }
 
 // The cases of a run, up to the first difference; whether there is none.
-pub(crate) fn run_cases(
-    run: Run,
-    state: &mut u64,
-    table: &mut [u8],
-    image1: &mut [u8],
-    image2: &mut [u8],
-    rows1: &mut [u32],
-    rows2: &mut [u32],
-    counts: &mut [u64],
-    digest: &mut u64,
-) -> bool {
+pub(crate) fn run_cases(run: Run, state: &mut u64, table: &mut Table, notes: &mut Notes) -> bool {
     let mut left = run.cases;
     while 0 < left {
-        if !one_case(
-            run,
-            state,
-            table,
-            image1,
-            image2,
-            rows1,
-            rows2,
-            counts,
-            digest,
-        ) {
+        if !one_case(run, state, table, notes) {
             return false;
         }
         left -= 1;

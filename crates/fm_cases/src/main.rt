@@ -1,30 +1,25 @@
 // Both implementations on the paper's cases and on many made ones; the first difference is shown, and ends the program.
-mod asking;
-mod chance;
 mod compare;
-mod damage;
-mod image;
-mod limits;
 mod made;
 mod paper;
 mod question;
 mod report;
-mod tables;
 mod tally;
-mod words;
 
-use chance::SEED;
+use cases::ADD;
+use cases::ARRANGE;
+use cases::AT_LIMITS;
+use cases::DISTANCE;
+use cases::LOW;
+use cases::SCATTERED;
+use cases::SEED;
 use made::ALL;
 use made::ALL_BUT_ARRANGE;
 use made::Run;
 use made::run_cases;
 use paper::paper_cases;
-use question::ADD;
-use question::ARRANGE;
-use question::DISTANCE;
-use tables::AT_LIMITS;
-use tables::LOW;
-use tables::SCATTERED;
+use tally::DIGEST;
+use tally::Notes;
 use tally::print_counts;
 
 // The runs in a row.
@@ -106,29 +101,12 @@ fn run_of(k: u32) -> Run {
 }
 
 // All made cases, up to the first difference; whether there is none.
-fn made_cases(
-    table: &mut [u8],
-    image1: &mut [u8],
-    image2: &mut [u8],
-    rows1: &mut [u32],
-    rows2: &mut [u32],
-    counts: &mut [u64],
-    digest: &mut u64,
-) -> bool {
+fn made_cases(notes: &mut Notes) -> bool {
+    let mut table = [0u8; 32_100];
     let mut state = SEED;
     let mut k: u32 = 0;
     while k < 8 {
-        if !run_cases(
-            run_of(k),
-            &mut state,
-            table,
-            image1,
-            image2,
-            rows1,
-            rows2,
-            counts,
-            digest,
-        ) {
+        if !run_cases(run_of(k), &mut state, &mut table, notes) {
             return false;
         }
         k += 1;
@@ -137,43 +115,22 @@ fn made_cases(
 }
 
 // The paper's cases and then the made ones, up to the first difference; whether there is none.
-fn all_cases(
-    table: &mut [u8],
-    image1: &mut [u8],
-    image2: &mut [u8],
-    rows1: &mut [u32],
-    rows2: &mut [u32],
-    counts: &mut [u64],
-    digest: &mut u64,
-) -> bool {
-    if !paper_cases(rows1, rows2, counts, digest) {
+fn all_cases(notes: &mut Notes) -> bool {
+    if !paper_cases(notes) {
         return false;
     }
     io::write_all(1, b"the paper's cases are as the paper has them\n");
-    made_cases(table, image1, image2, rows1, rows2, counts, digest)
+    made_cases(notes)
 }
 
 fn main() {
-    let mut table = [0u8; 32_100];
-    let mut image1 = [0u8; 32_400];
-    let mut image2 = [0u8; 32_400];
-    let mut rows1 = [0u32; 16_384];
-    let mut rows2 = [0u32; 16_384];
-    let mut counts = [0u64; 182];
-    let mut digest: u64 = SEED;
-    if !all_cases(
-        &mut table,
-        &mut image1,
-        &mut image2,
-        &mut rows1,
-        &mut rows2,
-        &mut counts,
-        &mut digest,
-    ) {
+    let mut notes = [0u64; 183];
+    notes[DIGEST] = SEED;
+    if !all_cases(&mut notes) {
         return;
     }
-    print_counts(&counts);
+    print_counts(&notes);
     io::write_all(1, b"digest ");
-    io::print_hex(1, digest, 16);
+    io::print_hex(1, notes[DIGEST], 16);
     io::write_all(1, b"\n");
 }

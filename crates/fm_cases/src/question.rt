@@ -1,33 +1,10 @@
-// A question with its numbers, put to each of the two implementations.
+// A question put to each of the two implementations.
+use cases::ADD;
+use cases::CHECK;
+use cases::Question;
+use cases::READ;
+use cases::WITHDRAW;
 use wire::signed;
-
-pub(crate) const READ: u32 = 0;
-
-pub(crate) const DISTANCE: u32 = 1;
-
-pub(crate) const ADD: u32 = 2;
-
-pub(crate) const WITHDRAW: u32 = 3;
-
-pub(crate) const MOVE: u32 = 4;
-
-pub(crate) const CHECK: u32 = 5;
-
-pub(crate) const ARRANGE: u32 = 6;
-
-// What is asked: which question, and the numbers of all questions; coordinates are words.
-pub(crate) struct Question {
-    pub(crate) kind: u32,
-    pub(crate) id: u32,
-    pub(crate) channel: u32,
-    pub(crate) last: u32,
-    pub(crate) class: u32,
-    pub(crate) zone: u32,
-    pub(crate) lat: u32,
-    pub(crate) lon: u32,
-    pub(crate) lat2: u32,
-    pub(crate) lon2: u32,
-}
 
 // The first implementation's answer to read or distance.
 pub(crate) fn first_number(q: Question, table: &[u8]) -> u64 {
@@ -87,50 +64,20 @@ pub(crate) fn second_image(q: Question, table: &[u8], image: &mut [u8]) -> u64 {
 
 // The first implementation's answer to check or arrange.
 pub(crate) fn first_rows(q: Question, table: &[u8], rows: &mut [u32]) -> u64 {
+    let lat = signed(q.lat);
+    let lon = signed(q.lon);
     if q.kind == CHECK {
-        return fms::fms_check(
-            table,
-            q.channel,
-            q.class,
-            q.zone,
-            signed(q.lat),
-            signed(q.lon),
-            rows,
-        );
+        return fms::fms_check(table, q.channel, q.class, q.zone, lat, lon, rows);
     }
-    fms::fms_arrange(
-        table,
-        q.channel,
-        q.last,
-        q.class,
-        q.zone,
-        signed(q.lat),
-        signed(q.lon),
-        rows,
-    )
+    fms::fms_arrange(table, q.channel, q.last, q.class, q.zone, lat, lon, rows)
 }
 
 // The second implementation's answer to check or arrange.
 pub(crate) fn second_rows(q: Question, table: &[u8], rows: &mut [u32]) -> u64 {
+    let lat = signed(q.lat);
+    let lon = signed(q.lon);
     if q.kind == CHECK {
-        return second::check(
-            table,
-            q.channel,
-            q.class,
-            q.zone,
-            signed(q.lat),
-            signed(q.lon),
-            rows,
-        );
+        return second::check(table, q.channel, q.class, q.zone, lat, lon, rows);
     }
-    second::arrange(
-        table,
-        q.channel,
-        q.last,
-        q.class,
-        q.zone,
-        signed(q.lat),
-        signed(q.lon),
-        rows,
-    )
+    second::arrange(table, q.channel, q.last, q.class, q.zone, lat, lon, rows)
 }

@@ -1,17 +1,21 @@
 // How often each question was answered in each way, and the digest of all answers and buffers.
-use super::chance::mixed;
-use super::question::ADD;
-use super::question::ARRANGE;
-use super::question::CHECK;
-use super::question::DISTANCE;
-use super::question::MOVE;
-use super::question::READ;
-use super::question::WITHDRAW;
+use cases::ADD;
+use cases::DISTANCE;
+use cases::MOVE;
+use cases::READ;
+use cases::WITHDRAW;
+use cases::mixed;
 ghost use Prim.Native.Nat.{_≤_, _<_};
 
+// The counts, of 26 numbers (0 where it is granted) for each of seven questions; and behind them the digest.
+pub(crate) type Notes = [u64; 183];
+
+// Where the digest stands.
+pub(crate) const DIGEST: usize = 182;
+
 // Mixes a number into the digest.
-pub(crate) fn mix(digest: &mut u64, value: u64) {
-    *digest = std::num::wrapping_add_u64(mixed(*digest), value);
+pub(crate) fn mix(notes: &mut Notes, value: u64) {
+    notes[DIGEST] = std::num::wrapping_add_u64(mixed(notes[DIGEST]), value);
 }
 
 // The refusal's number of an answer, 0 where it is granted.
@@ -26,26 +30,23 @@ pub(crate) fn extra_of(answer: u64) -> u64
     answer % 4_294_967_296
 }
 
-// Where the count of a question's answers with a number stands: 26 numbers, 0 where it is granted, for each of seven questions.
-fn place(kind: u32, number: u64) -> usize {
+// Where the count of a question's answers with a number stands.
+fn place(kind: u32, number: u64) -> usize
+    ensures { λ r. ⌜ r < 182 ⌝ }
+{
     ((kind % 7) * 26) as usize + (number % 26) as usize
 }
 
-// Counts an answer.
-pub(crate) fn note(counts: &mut [u64], kind: u32, answer: u64) {
+// Counts an answer, and mixes it into the digest.
+pub(crate) fn note(notes: &mut Notes, kind: u32, answer: u64) {
     let at = place(kind, number_of(answer));
-    if at < counts.len() {
-        counts[at] = std::num::wrapping_add_u64(counts[at], 1);
-    }
+    notes[at] = std::num::wrapping_add_u64(notes[at], 1);
+    mix(notes, answer);
 }
 
 // How often a question was answered with a number.
-fn count_of(counts: &[u64], kind: u32, number: u64) -> u64 {
-    let at = place(kind, number);
-    if at < counts.len() {
-        return counts[at];
-    }
-    0
+fn count_of(notes: &Notes, kind: u32, number: u64) -> u64 {
+    notes[place(kind, number)]
 }
 
 // Whether a question other than read and distance can be refused with a number from 13 on.
@@ -80,7 +81,7 @@ fn possible(kind: u32, number: u64) -> bool {
 }
 
 // Writes one count, `-` where the question is never answered so, and gives 1 where it can be and never was.
-fn print_count(counts: &[u64], kind: u32, number: u64) -> u64
+fn print_count(notes: &Notes, kind: u32, number: u64) -> u64
     ensures { λ r. ⌜ r ≤ 1 ⌝ }
 {
     io::write_all(1, b" ");
@@ -88,7 +89,7 @@ fn print_count(counts: &[u64], kind: u32, number: u64) -> u64
         io::write_all(1, b"-");
         return 0;
     }
-    let count = count_of(counts, kind, number);
+    let count = count_of(notes, kind, number);
     io::print_decimal(1, count);
     if count == 0 {
         return 1;
@@ -97,23 +98,22 @@ fn print_count(counts: &[u64], kind: u32, number: u64) -> u64
 }
 
 // Writes the counts of one number, and gives how many questions can be answered so and never were.
-fn print_line(counts: &[u64], number: u64) -> u64
+fn print_line(notes: &Notes, number: u64) -> u64
     ensures { λ r. ⌜ r ≤ 7 ⌝ }
 {
     io::print_decimal(1, number);
-    let a = print_count(counts, READ, number);
-    let b = print_count(counts, DISTANCE, number);
-    let c = print_count(counts, ADD, number);
-    let d = print_count(counts, WITHDRAW, number);
-    let e = print_count(counts, MOVE, number);
-    let f = print_count(counts, CHECK, number);
-    let g = print_count(counts, ARRANGE, number);
+    let mut missing: u64 = 0;
+    let mut kind: u32 = 0;
+    while kind < 7 {
+        missing += print_count(notes, kind, number);
+        kind += 1;
+    }
     io::write_all(1, b"\n");
-    a + b + c + d + e + f + g
+    missing
 }
 
 // Writes all counts, and how many of the possible answers never came.
-pub(crate) fn print_counts(counts: &[u64]) {
+pub(crate) fn print_counts(notes: &Notes) {
     io::write_all(
         1,
         b"number: read distance add withdraw move check arrange\n",
@@ -121,7 +121,7 @@ pub(crate) fn print_counts(counts: &[u64]) {
     let mut missing: u64 = 0;
     let mut number: u64 = 0;
     while number < 26 {
-        missing += print_line(counts, number);
+        missing += print_line(notes, number);
         number += 1;
     }
     io::write_all(1, b"possible answers that never came: ");

@@ -6,10 +6,10 @@ use Rattle.fm_cases.proofs.compare.alike_bytes.Statement.{statement}
 use Rattle.fm_cases.proofs.compare.alike_bytes.Tie as tie
 
 abbrev Inv-loop : tie.InvT-loop
-Inv-loop a b digest₀ i₀ digest i = Unit {0}
+Inv-loop a b notes₀ i₀ notes i = Unit {0}
 
 abbrev μ-loop : tie.MeasureT-loop
-μ-loop a b digest₀ i₀ digest i = length a - i
+μ-loop a b notes₀ i₀ notes i = length a - i
 
 loop-holds : tie.Need-loop-holds Inv-loop μ-loop
 loop-holds c = search needs
@@ -17,17 +17,14 @@ loop-holds c = search needs
 returns : tie.Need-returns Inv-loop μ-loop
 returns c = search needs
 
+shared-slice-read-byte : tie.Need-shared-slice-read-byte Inv-loop μ-loop
+shared-slice-read-byte c = search needs
+
 shared-slice-read-if2 : tie.Need-shared-slice-read-if2 Inv-loop μ-loop
 shared-slice-read-if2 c = search needs
 
-shared-slice-read-if2-2 : tie.Need-shared-slice-read-if2-2 Inv-loop μ-loop
-shared-slice-read-if2-2 c = search needs
-
 returns-2 : tie.Need-returns-2 Inv-loop μ-loop
 returns-2 c = search needs
-
-shared-slice-read-wide : tie.Need-shared-slice-read-wide Inv-loop μ-loop
-shared-slice-read-wide c = search needs
 
 wide-requires : tie.Need-wide-requires Inv-loop μ-loop
 wide-requires c κs = search needs
@@ -55,10 +52,9 @@ alike-bytes-spec =
     μ-loop
     loop-holds
     returns
+    shared-slice-read-byte
     shared-slice-read-if2
-    shared-slice-read-if2-2
     returns-2
-    shared-slice-read-wide
     wide-requires
     mix-requires
     add-i

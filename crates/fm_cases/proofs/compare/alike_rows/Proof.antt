@@ -6,10 +6,10 @@ use Rattle.fm_cases.proofs.compare.alike_rows.Statement.{statement}
 use Rattle.fm_cases.proofs.compare.alike_rows.Tie as tie
 
 abbrev Inv-loop : tie.InvT-loop
-Inv-loop a b digest₀ i₀ digest i = Unit {0}
+Inv-loop a b notes₀ i₀ notes i = Unit {0}
 
 abbrev μ-loop : tie.MeasureT-loop
-μ-loop a b digest₀ i₀ digest i = length a - i
+μ-loop a b notes₀ i₀ notes i = length a - i
 
 loop-holds : tie.Need-loop-holds Inv-loop μ-loop
 loop-holds c = search needs
@@ -17,26 +17,20 @@ loop-holds c = search needs
 returns : tie.Need-returns Inv-loop μ-loop
 returns c = search needs
 
+mul-number : tie.Need-mul-number Inv-loop μ-loop
+mul-number c = search needs
+
+shared-slice-read-number : tie.Need-shared-slice-read-number Inv-loop μ-loop
+shared-slice-read-number c = search needs
+
 mul-if2 : tie.Need-mul-if2 Inv-loop μ-loop
 mul-if2 c = search needs
 
 shared-slice-read-if2 : tie.Need-shared-slice-read-if2 Inv-loop μ-loop
 shared-slice-read-if2 c = search needs
 
-mul-if2-2 : tie.Need-mul-if2-2 Inv-loop μ-loop
-mul-if2-2 c = search needs
-
-shared-slice-read-if2-2 : tie.Need-shared-slice-read-if2-2 Inv-loop μ-loop
-shared-slice-read-if2-2 c = search needs
-
 returns-2 : tie.Need-returns-2 Inv-loop μ-loop
 returns-2 c = search needs
-
-mul-long : tie.Need-mul-long Inv-loop μ-loop
-mul-long c = search needs
-
-shared-slice-read-long : tie.Need-shared-slice-read-long Inv-loop μ-loop
-shared-slice-read-long c = search needs
 
 long-requires : tie.Need-long-requires Inv-loop μ-loop
 long-requires c κs = search needs
@@ -64,13 +58,11 @@ alike-rows-spec =
     μ-loop
     loop-holds
     returns
+    mul-number
+    shared-slice-read-number
     mul-if2
     shared-slice-read-if2
-    mul-if2-2
-    shared-slice-read-if2-2
     returns-2
-    mul-long
-    shared-slice-read-long
     long-requires
     mix-requires
     add-i

@@ -20,35 +20,23 @@ room-for-requires c κs = search needs
 least-requires : tie.Need-least-requires
 least-requires c κs = search needs
 
-least-requires-2 : tie.Need-least-requires-2
-least-requires-2 c κs = search needs
-
 below-requires : tie.Need-below-requires
 below-requires c κs = search needs
 
-slice-relend-prefix-compare-rows : tie.Need-slice-relend-prefix-compare-rows
-slice-relend-prefix-compare-rows c = search needs
+array-borrow-prefix-mine : tie.Need-array-borrow-prefix-mine
+array-borrow-prefix-mine c = search needs
 
 slice-aggregate-compare-rows : tie.Need-slice-aggregate-compare-rows
 slice-aggregate-compare-rows c = simp length-take (omega arith)
 
-slice-relend-prefix-compare-rows-2 : tie.Need-slice-relend-prefix-compare-rows-2
-slice-relend-prefix-compare-rows-2 c = search needs
+array-borrow-prefix-other : tie.Need-array-borrow-prefix-other
+array-borrow-prefix-other c = search needs
 
 slice-aggregate-compare-rows-2 : tie.Need-slice-aggregate-compare-rows-2
 slice-aggregate-compare-rows-2 c = simp length-take (omega arith)
 
 compare-rows-requires : tie.Need-compare-rows-requires
 compare-rows-requires c κs = search needs
-
-same-length : tie.Need-same-length
-same-length c = search needs
-
-same-length-2 : tie.Need-same-length-2
-same-length-2 c = search needs
-
-same-length-3 : tie.Need-same-length-3
-same-length-3 c = search needs
 
 returns : tie.Need-returns
 returns c = search needs
@@ -62,14 +50,10 @@ rows-case-spec =
     needed-requires
     room-for-requires
     least-requires
-    least-requires-2
     below-requires
-    slice-relend-prefix-compare-rows
+    array-borrow-prefix-mine
     slice-aggregate-compare-rows
-    slice-relend-prefix-compare-rows-2
+    array-borrow-prefix-other
     slice-aggregate-compare-rows-2
     compare-rows-requires
-    same-length
-    same-length-2
-    same-length-3
     returns)

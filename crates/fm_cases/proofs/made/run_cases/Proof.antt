@@ -1,47 +1,19 @@
--- `fm_cases::made::run_cases` is safe and ends. The buffers keep their lengths; the measure is the cases left. Assumes nothing.
-use Prim.Native.Nat.{_-_}
-use mathlib.Core.Path.{_≡_}
-use lib.ListN.{length}
+-- `fm_cases::made::run_cases` is safe and ends. The measure is the cases left. Assumes nothing.
 use borrow.Author.Needs.{needs}
 use Rattle.fm_cases.proofs.made.run_cases.Statement.{statement}
 use Rattle.fm_cases.proofs.made.run_cases.Tie as tie
 
 abbrev Inv-loop : tie.InvT-loop
-Inv-loop run state₀ table₀ image1₀ image2₀ rows1₀ rows2₀ counts₀ digest₀ left₀ state table image1 image2 rows1 rows2 counts digest left =
-    (length table ≡ length table₀)
-    × ((length image1 ≡ length image1₀)
-    × ((length image2 ≡ length image2₀)
-    × ((length rows1 ≡ length rows1₀)
-    × ((length rows2 ≡ length rows2₀)
-    × (length counts ≡ length counts₀)))))
+Inv-loop run state₀ table₀ notes₀ left₀ state table notes left = Unit {0}
 
 abbrev μ-loop : tie.MeasureT-loop
-μ-loop run state₀ table₀ image1₀ image2₀ rows1₀ rows2₀ counts₀ digest₀ left₀ state table image1 image2 rows1 rows2 counts digest left =
-    left
+μ-loop run state₀ table₀ notes₀ left₀ state table notes left = left
 
 loop-holds : tie.Need-loop-holds Inv-loop μ-loop
 loop-holds c = search needs
 
 one-case-requires : tie.Need-one-case-requires Inv-loop μ-loop
 one-case-requires c κs = search needs
-
-same-length : tie.Need-same-length Inv-loop μ-loop
-same-length c = search needs
-
-same-length-2 : tie.Need-same-length-2 Inv-loop μ-loop
-same-length-2 c = search needs
-
-same-length-3 : tie.Need-same-length-3 Inv-loop μ-loop
-same-length-3 c = search needs
-
-same-length-4 : tie.Need-same-length-4 Inv-loop μ-loop
-same-length-4 c = search needs
-
-same-length-5 : tie.Need-same-length-5 Inv-loop μ-loop
-same-length-5 c = search needs
-
-same-length-6 : tie.Need-same-length-6 Inv-loop μ-loop
-same-length-6 c = search needs
 
 returns : tie.Need-returns Inv-loop μ-loop
 returns c = search needs
@@ -55,24 +27,6 @@ loop-less c = search needs
 loop-again : tie.Need-loop-again Inv-loop μ-loop
 loop-again c = search needs
 
-same-length-7 : tie.Need-same-length-7 Inv-loop μ-loop
-same-length-7 c = search needs
-
-same-length-8 : tie.Need-same-length-8 Inv-loop μ-loop
-same-length-8 c = search needs
-
-same-length-9 : tie.Need-same-length-9 Inv-loop μ-loop
-same-length-9 c = search needs
-
-same-length-10 : tie.Need-same-length-10 Inv-loop μ-loop
-same-length-10 c = search needs
-
-same-length-11 : tie.Need-same-length-11 Inv-loop μ-loop
-same-length-11 c = search needs
-
-same-length-12 : tie.Need-same-length-12 Inv-loop μ-loop
-same-length-12 c = search needs
-
 returns-2 : tie.Need-returns-2 Inv-loop μ-loop
 returns-2 c = search needs
 
@@ -84,20 +38,8 @@ run-cases-spec =
     μ-loop
     loop-holds
     one-case-requires
-    same-length
-    same-length-2
-    same-length-3
-    same-length-4
-    same-length-5
-    same-length-6
     returns
     sub-left
     loop-less
     loop-again
-    same-length-7
-    same-length-8
-    same-length-9
-    same-length-10
-    same-length-11
-    same-length-12
     returns-2)

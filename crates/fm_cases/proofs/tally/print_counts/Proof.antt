@@ -5,10 +5,10 @@ use Rattle.fm_cases.proofs.tally.print_counts.Statement.{statement}
 use Rattle.fm_cases.proofs.tally.print_counts.Tie as tie
 
 abbrev Inv-loop : tie.InvT-loop
-Inv-loop counts missing₀ number₀ t5 t6 missing number = (missing ≤ 7 * number) × (number ≤ 26)
+Inv-loop notes missing₀ number₀ t5 t6 missing number = (missing ≤ 7 * number) × (number ≤ 26)
 
 abbrev μ-loop : tie.MeasureT-loop
-μ-loop counts missing₀ number₀ t5 t6 missing number = 26 - number
+μ-loop notes missing₀ number₀ t5 t6 missing number = 26 - number
 
 slice-aggregate-write-all : tie.Need-slice-aggregate-write-all Inv-loop μ-loop
 slice-aggregate-write-all c = search needs

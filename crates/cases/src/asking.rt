@@ -157,7 +157,7 @@ fn asked_last(state: &mut u64, first: u32, odds: u32) -> u32
 }
 
 // The first id of a table.
-pub(crate) fn first_id(state: &mut u64) -> u32 {
+pub fn first_id(state: &mut u64) -> u32 {
     match below(state, 6) {
         0 => 65_530,
         1 => 16_777_210,
@@ -176,7 +176,7 @@ fn odds_of(state: &mut u64) -> u32
 }
 
 // A question of a kind about a table of n records whose ids start at a number.
-pub(crate) fn made_question(state: &mut u64, kind: u32, start: u32, n: u32) -> Question
+pub fn made_question(state: &mut u64, kind: u32, start: u32, n: u32) -> Question
     requires { ⌜ n ≤ 2001 ⌝ }
 {
     let odds = odds_of(state);

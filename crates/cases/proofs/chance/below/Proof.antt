@@ -1,8 +1,8 @@
--- `fm_cases::chance::below` meets its contract: a remainder is below its divisor. Assumes nothing.
+-- `cases::chance::below` meets its contract: a remainder is below its divisor. Assumes nothing.
 use native.Mathlib.Nat.{mod-lt}
 use borrow.Author.Needs.{needs}
-use Rattle.fm_cases.proofs.chance.below.Statement.{statement}
-use Rattle.fm_cases.proofs.chance.below.Tie as tie
+use Rattle.cases.proofs.chance.below.Statement.{statement}
+use Rattle.cases.proofs.chance.below.Tie as tie
 
 draw-requires : tie.Need-draw-requires
 draw-requires c κs = search needs

@@ -2,10 +2,10 @@
 ghost use Prim.Native.Nat.{_<_};
 
 // Where the made numbers start.
-pub(crate) const SEED: u64 = 88_172_645_463_325_252;
+pub const SEED: u64 = 88_172_645_463_325_252;
 
 // One turn of xorshift on 64 bits.
-pub(crate) fn mixed(x: u64) -> u64 {
+pub fn mixed(x: u64) -> u64 {
     let a = x ^ (x << 13);
     let b = a ^ (a >> 7);
     b ^ (b << 17)
@@ -18,7 +18,7 @@ fn draw(state: &mut u64) -> u64 {
 }
 
 // A made number below n.
-pub(crate) fn below(state: &mut u64, n: u32) -> u32
+pub fn below(state: &mut u64, n: u32) -> u32
     requires { ⌜ 0 < n ⌝ }
     ensures { λ r. ⌜ r < n ⌝ }
 {

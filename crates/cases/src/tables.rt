@@ -16,13 +16,13 @@ use super::words::site_at;
 ghost use Prim.Native.Nat.{_≤_, _<_};
 
 // Records at the limits of what is asked and of each other.
-pub(crate) const AT_LIMITS: u32 = 0;
+pub const AT_LIMITS: u32 = 0;
 
 // Records anywhere within some hundred km.
-pub(crate) const SCATTERED: u32 = 1;
+pub const SCATTERED: u32 = 1;
 
 // Records on channels at or below 220 only.
-pub(crate) const LOW: u32 = 2;
+pub const LOW: u32 = 2;
 
 // An end of a range, or any place within it.
 fn place_within(state: &mut u64, most: u32) -> u32
@@ -59,6 +59,16 @@ fn place_near(state: &mut u64, from: u32, reach: u32, most: u32) -> u32
     }
     let near = up - reach;
     if most < near { most } else { near }
+}
+
+// A site within the ranges, at most a height north or south and a width east or west of another, in seconds.
+fn site_near(state: &mut u64, from: Site, height: u32, width: u32) -> Site
+    requires { ⌜ (height ≤ 100000) × (width ≤ 100000) ⌝ }
+{
+    site_at(
+        place_near(state, north(from), height, LATITUDES),
+        place_near(state, east(from), width, LONGITUDES),
+    )
 }
 
 // A channel difference: one with a requirement, or one beside such.
@@ -110,35 +120,35 @@ fn any_flags(state: &mut u64) -> u32 {
     if once_in(state, 4) { 1 } else { 0 }
 }
 
+// The same site as another, any, one near it, or one at either of two limits from it.
+fn site_at_limits(state: &mut u64, from: Site, km: u32, r: u32) -> Site {
+    match below(state, 8) {
+        0 => from,
+        1 => any_site(state),
+        2 => site_near(state, from, 3_000, 6_000),
+        3 => at_limit(state, from, km),
+        _ => at_limit(state, from, r),
+    }
+}
+
 // A record at the same site as another, at the limit from it, or some km away.
 fn record_at_limits(state: &mut u64, id: u32, from: Record) -> Record {
     let class = below(state, 8);
     let channel = near_channel(state, from.channel);
     let r = separation(from.channel, from.class, channel, class);
-    let beside = from.site;
     let km = below(state, 300);
-    let where_to = match below(state, 8) {
-        0 => beside,
-        1 => any_site(state),
-        2 => site_at(
-            place_near(state, north(beside), 3_000, LATITUDES),
-            place_near(state, east(beside), 6_000, LONGITUDES),
-        ),
-        3 => at_limit(state, beside, km),
-        _ => at_limit(state, beside, r),
-    };
+    let site = site_at_limits(state, from.site, km, r);
     Record {
         id,
         channel,
         class,
         flags: any_flags(state),
-        site: where_to,
+        site,
     }
 }
 
 // A record within some hundred km of another.
 fn scattered_record(state: &mut u64, id: u32, from: Record, style: u32) -> Record {
-    let beside = from.site;
     let channel = if style == LOW {
         201 + below(state, 20)
     } else {
@@ -149,10 +159,7 @@ fn scattered_record(state: &mut u64, id: u32, from: Record, style: u32) -> Recor
         channel,
         class: below(state, 8),
         flags: any_flags(state),
-        site: site_at(
-            place_near(state, north(beside), 20_000, LATITUDES),
-            place_near(state, east(beside), 40_000, LONGITUDES),
-        ),
+        site: site_near(state, from.site, 20_000, 40_000),
     }
 }
 
@@ -173,13 +180,7 @@ fn either(state: &mut u64, a: Record, b: Record) -> Record {
 }
 
 // Writes a table of n records whose ids rise by 3 from that of what is asked, and gives its length.
-pub(crate) fn made_table(
-    state: &mut u64,
-    asked: Record,
-    n: usize,
-    style: u32,
-    table: &mut [u8],
-) -> usize
+pub fn made_table(state: &mut u64, asked: Record, n: usize, style: u32, table: &mut [u8]) -> usize
     requires { ⌜ n ≤ 2001 ⌝ }
     ensures { λ r. ⌜ r ≤ 32024 ⌝ }
 {

@@ -3,12 +3,12 @@ use super::words::Site;
 ghost use Prim.Native.Nat.{_≤_};
 
 // A record's fields.
-pub(crate) struct Record {
-    pub(crate) id: u32,
-    pub(crate) channel: u32,
-    pub(crate) class: u32,
-    pub(crate) flags: u32,
-    pub(crate) site: Site,
+pub struct Record {
+    pub id: u32,
+    pub channel: u32,
+    pub class: u32,
+    pub flags: u32,
+    pub site: Site,
 }
 
 // Where the record at a position starts.
@@ -42,26 +42,22 @@ pub(crate) fn put_four(table: &mut [u8], at: usize, value: u32)
     put_two(table, at + 2, value);
 }
 
-// Writes the header of n stations.
-pub(crate) fn put_header(table: &mut [u8], n: u32) {
-    put_one(table, 0, 0x46);
-    put_one(table, 1, 0x4D);
-    put_one(table, 2, 0x53);
-    put_two(table, 3, 1);
-    put_one(table, 5, 0);
+// Writes the header of n stations: the mark FMS, version 1, a byte 0, and n.
+pub fn put_header(table: &mut [u8], n: u32) {
+    put_four(table, 0, 0x464D_5300);
+    put_two(table, 4, 0x0100);
     put_two(table, 6, n);
 }
 
 // Writes the record at a position.
-pub(crate) fn put_record(table: &mut [u8], position: usize, record: Record)
+pub fn put_record(table: &mut [u8], position: usize, record: Record)
     requires { ⌜ position ≤ 2001 ⌝ }
 {
     let at = start_of(position);
     let s = record.site;
     put_four(table, at, record.id);
     put_two(table, at + 4, record.channel);
-    put_one(table, at + 6, record.class);
-    put_one(table, at + 7, record.flags);
+    put_two(table, at + 6, record.class % 256 * 256 + record.flags % 256);
     put_four(table, at + 8, s.lat);
     put_four(table, at + 12, s.lon);
 }

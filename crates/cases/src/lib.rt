@@ -1,0 +1,32 @@
+// Made questions and tables: numbers from a fixed seed, sites at the limits, and damage.
+mod asking;
+mod chance;
+mod damage;
+mod image;
+mod limits;
+mod question;
+mod tables;
+mod words;
+
+pub use asking::first_id;
+pub use asking::made_question;
+pub use chance::SEED;
+pub use chance::below;
+pub use chance::mixed;
+pub use damage::damaged;
+pub use image::Record;
+pub use image::put_header;
+pub use image::put_record;
+pub use question::ADD;
+pub use question::ARRANGE;
+pub use question::CHECK;
+pub use question::DISTANCE;
+pub use question::MOVE;
+pub use question::Question;
+pub use question::READ;
+pub use question::WITHDRAW;
+pub use tables::AT_LIMITS;
+pub use tables::LOW;
+pub use tables::SCATTERED;
+pub use tables::made_table;
+pub use words::Site;

@@ -1,0 +1,28 @@
+// A question with its numbers.
+pub const READ: u32 = 0;
+
+pub const DISTANCE: u32 = 1;
+
+pub const ADD: u32 = 2;
+
+pub const WITHDRAW: u32 = 3;
+
+pub const MOVE: u32 = 4;
+
+pub const CHECK: u32 = 5;
+
+pub const ARRANGE: u32 = 6;
+
+// What is asked: which question, and the numbers of all questions; coordinates are words.
+pub struct Question {
+    pub kind: u32,
+    pub id: u32,
+    pub channel: u32,
+    pub last: u32,
+    pub class: u32,
+    pub zone: u32,
+    pub lat: u32,
+    pub lon: u32,
+    pub lat2: u32,
+    pub lon2: u32,
+}
