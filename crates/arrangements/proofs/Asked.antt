@@ -1,5 +1,5 @@
 -- The three ways out of the question: the table is refused, what is asked is refused, or the rows are listed. Assumes nothing.
-use mathlib.Core.Path.{_≡_}
+use mathlib.Core.Path.{_≡_, subst}
 use mathlib.Core.List.{List}
 use Prim.Native.Nat.{ℕ}
 use Rattle.ground.specs.Rows.{flat}
@@ -16,12 +16,17 @@ use Rattle.desk.specs.Asked.{askedFault}
 use Rattle.desk.specs.declared.Answer.{Answer}
 use Rattle.desk.specs.declared.Answer.the-variants.{Refused}
 use Rattle.desk.proofs.Answers.{table-refused, table-passed, asked-refused, asked-passed}
-use Rattle.arrangements.specs.Arrange.{scene, arrangements, arrangedFor}
+use Rattle.planning.specs.Scene.{scene}
+use Rattle.arrangements.specs.Arrange.{arrangements, arrangedFor}
 use Rattle.arrangements.specs.declared.Wanted.{Wanted}
 
 -- what is found of the question
 abbrev pub fault : Wanted → Verdict
 fault w = askedFault (w .first) (w .last) (w .class) (w .zone) (w .latitude) (w .longitude)
+
+-- the same rows, in another form
+pub answered-as : {vs ws entry exit : List ℕ} {r : Answer} → vs ≡ ws → Answered (grant vs) entry exit r → Answered (grant ws) entry exit r
+answered-as {vs} {ws} {entry} {exit} {r} e a = subst (λ (xs : List ℕ). Answered (grant xs) entry exit r) e a
 
 module _ (s : List ℕ) (w : Wanted) where
   pub table-left : (entry : List ℕ) (j : Judged) (f : Refusal) → j ≡ judged s → j ≡ Refused′ f → Answered (arrangedFor s w) entry entry (leave j)

@@ -4,7 +4,7 @@ use mathlib.Core.Bool.{false}
 use Prim.Native.Nat.{ℕ, zero, suc, _+_, _≤_}
 use native.Mathlib.Omega.{arith}
 use lib.ListN.{getD, replicate, length-replicate}
-use Rattle.arrangements.specs.Planning.{start, Room, Down}
+use Rattle.planning.specs.Flags.{start, Room, Down}
 
 all-down : (n k : ℕ) → getD (replicate n false) k false ≡ false
 all-down zero k = refl

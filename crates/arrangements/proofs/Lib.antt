@@ -1,10 +1,5 @@
 pub mod Blank
-pub mod Rowing
-pub mod Single
-pub mod Tallies
-pub mod Marking
 pub mod Movers
 pub mod Unique
-pub mod Going
 pub mod Asked
 pub mod Meaning

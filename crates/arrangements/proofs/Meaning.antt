@@ -18,8 +18,9 @@ use Rattle.stations.proofs.Table.{whole}
 use Rattle.stations.proofs.Places.{ascending}
 use Rattle.survey.specs.Ways.{everyRecord}
 use Rattle.desk.specs.Answers.{grant}
+use Rattle.planning.specs.Scene.{Scene, scene, clear, allowed}
 use Rattle.arrangements.specs.declared.Wanted.{Wanted}
-use Rattle.arrangements.specs.Arrange.{Scene, scene, clear, allowed, moves, arranged, arrangements, arrangedFor}
+use Rattle.arrangements.specs.Arrange.{moves, arranged, arrangements, arrangedFor}
 use Rattle.arrangements.specs.Meaning.{Arrangement, unmoved, moving, Before}
 use Rattle.arrangements.proofs.Movers.{clear-is, not-clear, blocked-is, Move, allowed-is}
 use Rattle.arrangements.proofs.Asked.{fault}

@@ -11,7 +11,7 @@ use borrow.Author.Tests.{eq-eqb, ne-eqb, eqb-false, not-true}
 use Rattle.ground.specs.Lists.{span, every}
 use Rattle.ground.proofs.Guards.{and-was, and-both}
 use Rattle.ground.proofs.Spans.{every-true, every-false}
-use Rattle.arrangements.specs.Arrange.{Scene, clear, newBut, movedBut, allowed}
+use Rattle.planning.specs.Scene.{Scene, clear, newBut, movedBut, allowed}
 use Rattle.arrangements.specs.Meaning.{Clear, Clean}
 
 -- ---- all pass, or all but one

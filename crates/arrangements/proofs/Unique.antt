@@ -1,23 +1,30 @@
--- Arrange, one new channel: the naive enumeration is what its mark and its flags say. Assumes nothing.
+-- Arrange: the naive enumeration is what the marks of the new channels and the flags of the moves say. Assumes nothing.
 use mathlib.Core.Path.{_≡_, refl, sym, ap, _∙_}
-use mathlib.Core.Bool.{Bool, true, false, not, _&&_, _||_, true≢false}
+use mathlib.Core.Bool.{Bool, false, true≢false}
 use mathlib.Core.List.{List, [], _∷_, map}
 use Prim.Native.Nat.{ℕ, suc, _+_, _-_, _≤_, _<_}
 use native.Mathlib.Omega.{arith}
-use lib.Dec.{eqb}
+use lib.IntN.{ℤ}
 use lib.ListN.{getD}
-use Rattle.survey.specs.Marks.{seen}
 use Rattle.ground.specs.Lists.{span, each, keep}
 use Rattle.ground.specs.Rows.{Row, row, flat}
-use Rattle.arrangements.specs.Arrange.{Scene, newBut, movedBut, allowed, moves, arranged, arrangements}
-use Rattle.arrangements.specs.Meaning.{Clear}
-use Rattle.arrangements.specs.Planning.{place, moveAt, markRows, channelRows, Lone, Planned, goesIn}
 use Rattle.ground.proofs.Spans.{each-cong, each-none, each-single, keep-none}
 use Rattle.ground.proofs.Writes.{flat-keep, flat-each}
-use Rattle.arrangements.proofs.Single.{First, one}
+use Rattle.spacing.specs.Pair.{assignment}
+use Rattle.stations.specs.Image.{stationAt}
+use Rattle.survey.specs.Ways.{everyRecord, blocks}
+use Rattle.survey.specs.Marks.{seen, Marked}
+use Rattle.planning.specs.Scene.{Scene, scene, allowed}
+use Rattle.planning.specs.Flags.{place, Lone, Planned}
+use Rattle.planning.proofs.Single.{First}
+use Rattle.planning.proofs.Tallies.{Tally, nobody, lone, several, tally, mark-of}
+use Rattle.arrangements.specs.Arrange.{moves, arranged, arrangements}
+use Rattle.arrangements.specs.Meaning.{Clear}
+use Rattle.listing.specs.Listing.{moveAt, markRows, allRows, Marks}
 use Rattle.arrangements.proofs.Movers.{clear-is, blocked-is, LoneBlocker, not-allowed}
-use Rattle.arrangements.proofs.Tallies.{Tally, nobody, lone, several, tally, but-mark}
-use Rattle.arrangements.proofs.Marking.{rows-free, rows-many, rows-lone}
+use Rattle.listing.proofs.Marking.{rows-free, rows-many, rows-lone}
+
+-- ---- one new channel
 
 module _ (t : Scene) (c : ℕ) where
   movesOf : ℕ → List Row
@@ -55,10 +62,6 @@ module _ (t : Scene) (c : ℕ) where
         rw (blocked-is t c blocked) (each-single movesOf (t .size) 0 a (omega arith) (omega arith) (λ i lo hi ne.
         no-moves i blocked (λ l. ne (sym (l .alone a within (first .hit within))))))
 
-    clear-one : First (t .new c) (a + 1) (t .size) (t .size) → newBut t a c ≡ true
-    unfolding newBut
-    clear-one second = one (t .size) (t .new c) a first within (t .size) second (omega arith)
-
     -- the numbers, from the flags of its moves
     move-numbers : (low : ℕ) (flags : List Bool) → ((m : ℕ) → 221 ≤ m → m ≤ 300 → getD flags (place low c m) false ≡ allowed t c a m) → each (moveAt low flags (t .id a) c) (span 221 80) ≡ flat (arranged t c)
     unfolding movesOf
@@ -77,26 +80,31 @@ module _ (t : Scene) (c : ℕ) where
       ∙ move-numbers a f l low flags (λ m lo hi. right (omega arith, omega arith) m lo hi ∙ ap (λ (i : ℕ). allowed t c i m) e)
   by-mark v low flags few (several a b l f g h) right = sym (rows-many (t .id) low flags c 65535 (λ q. omega arith) refl) ∙ two-numbers a f l b g h
 
-  -- where a lone movable blocker may go, by the marks from its own site
-  pub by-kept : (v : ℕ) (kept : List ℕ) → t .size ≤ 65534 → Tally (t .new c) (t .size) v → Lone v → t .movable (v - 1) ≡ true → ((m : ℕ) → 221 ≤ m → m ≤ 300 → getD kept (m - 221) 0 ≡ seen (t .moved (v - 1) m) (t .size)) → (m : ℕ) → 221 ≤ m → m ≤ 300 → goesIn t kept v c m ≡ allowed t c (v - 1) m
-  unfolding allowed movedBut
-  by-kept v kept few (nobody f) o mv k m lo hi = absurd (omega arith)
-  by-kept v kept few (several a b l f g h) o mv k m lo hi = absurd (omega arith)
-  by-kept v kept few (lone a l f g) o mv k m lo hi = go (suc a - 1) (omega arith) mv (k m lo hi)
-    where
-      go : (i : ℕ) → i ≡ a → t .movable i ≡ true → getD kept (m - 221) 0 ≡ seen (t .moved i m) (t .size) → (not (eqb m (t .channel i)) && ((eqb (getD kept (m - 221) 0) 0 || eqb (getD kept (m - 221) 0) (suc a)) && not (t .meets i m c))) ≡ allowed t c i m
-      go i e mv k =
-          let n : newBut t i c ≡ true = rw e (clear-one a f l g) in
-          let b = but-mark (t .moved i m) (t .size) i (seen (t .moved i m) (t .size)) few (omega arith) (tally (t .moved i m) (t .size)) in
-          rw (mv, n, b, k, e)
-
 -- ---- one channel after the other
 
 pub rows-all : (t : Scene) (marks : List ℕ) (flags : List Bool) (first last : ℕ) → t .size ≤ 65534 → ((x : ℕ) → first ≤ x → x ≤ last → getD marks (x - 221) 0 ≡ seen (t .new x) (t .size)) → Planned t first (suc last) flags
-    → each (channelRows (t .id) marks first flags) (span first (suc last - first)) ≡ flat (arrangements t first last)
+    → allRows (t .id) marks first last flags ≡ flat (arrangements t first last)
 unfolding arrangements
 rows-all t marks flags first last few marked p =
     each-cong _ _ (suc last - first) first (λ x lo hi.
     ap (markRows (t .id) first flags x) (marked x lo (omega arith))
     ∙ by-mark t x (seen (t .new x) (t .size)) first flags few (tally (t .new x) (t .size)) (λ o. p .done x lo (omega arith) o))
     ∙ sym (flat-each (arranged t) (span first (suc last - first)))
+
+-- ---- the same for the scene of a table of which a question looks at every record
+
+module _ (s : List ℕ) (n class : ℕ) (lat lon : ℤ) where
+  abbrev t : Scene
+  t = scene everyRecord s n class lat lon
+
+  pub as-new : {first last : ℕ} {marks : List ℕ} → Marked (λ m j. blocks everyRecord s (assignment m class lat lon) j) first last n marks → Marked (t .new) first last n marks
+  unfolding scene
+  as-new w = w
+
+  pub marks-ok : {first last : ℕ} {marks : List ℕ} → Marked (t .new) first last n marks → Marks n first last marks
+  marks-ok w = record { at = λ m lo hi. rw (w .at m lo hi) (mark-of (t .new m) n _ (tally (t .new m) n)) }
+
+  pub rows-of : {marks : List ℕ} {flags : List Bool} (first last : ℕ) → n ≤ 65534 → Marked (t .new) first last n marks → Planned t first (suc last) flags
+      → allRows (λ j. stationAt s j .id) marks first last flags ≡ flat (arrangements t first last)
+  unfolding scene
+  rows-of {marks} {flags} first last few w p = rows-all t marks flags first last few (λ x a b. w .at x a b) p

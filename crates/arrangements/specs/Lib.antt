@@ -1,3 +1,2 @@
 pub mod Arrange
 pub mod Meaning
-pub mod Planning

@@ -1,11 +1,10 @@
 -- Demand 3 in the owner's words: which rows are arrangements, and the paper's order. Assumes nothing.
 use Prim.Native.Nat.{ℕ, _≤_, _<_}
 use mathlib.Core.Bool.{true, false}
-use mathlib.Core.List.{List, [], _∷_}
 use mathlib.Core.Logic.{_⊎_}
 use mathlib.Core.Path.{_≡_}
 use Rattle.ground.specs.Rows.{Row, row}
-use Rattle.arrangements.specs.Arrange.{Scene}
+use Rattle.planning.specs.Scene.{Scene}
 
 -- the new station on c is short to nobody
 abbrev pub Clear : Scene → ℕ → Type 0

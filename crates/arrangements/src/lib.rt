@@ -2,11 +2,10 @@
 ghost use Rattle.desk.specs.Answers.{Answered};
 ghost use Rattle.arrangements.specs.Arrange.{arrangedFor};
 
-mod listing;
-mod planning;
+mod answering;
 
+use answering::list_asked;
 use desk::Answer;
-use listing::list_asked;
 use stations::Judged;
 use stations::Verdict;
 

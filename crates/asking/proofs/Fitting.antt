@@ -32,14 +32,16 @@ use Rattle.spacing.specs.Pair.{Assignment}
 use Rattle.survey.specs.Ways.{everyRecord, blocks}
 use Rattle.desk.specs.Answers.{grant, deny, onTable, onAsked}
 use Rattle.desk.specs.Asked.{askedFault}
-use Rattle.checks.specs.Check.{asked, shortPositions, rowOf, shortRows, checkedFor}
+use Rattle.nearby.specs.Positions.{shortPositions}
+use Rattle.checks.specs.Check.{asked, rowOf, shortRows, checkedFor}
 use Rattle.checks.proofs.Listing.{length-flat}
-use Rattle.arrangements.specs.Arrange.{Scene, scene, clear, allowed, moves, arranged, arrangements, arrangedFor}
+use Rattle.planning.specs.Scene.{Scene, scene, clear, allowed}
+use Rattle.planning.proofs.Tallies.{Tally, nobody, lone, several, tally}
+use Rattle.arrangements.specs.Arrange.{moves, arranged, arrangements, arrangedFor}
 use Rattle.arrangements.specs.Meaning.{Clear}
-use Rattle.arrangements.proofs.Tallies.{Tally, nobody, lone, several, tally}
 use Rattle.arrangements.proofs.Movers.{allowed-is, not-clear, not-allowed}
 use Rattle.changes.specs.Changes.{Change, add, withdraw, move, Decision, allow, refuse, entered, decide, written, changedFor}
-use Rattle.changes.proofs.Cuts.{length-insert, length-remove, length-rechannel}
+use Rattle.granting.proofs.Cuts.{length-insert, length-remove, length-rechannel}
 use Rattle.changes.proofs.Grants.{added, withdrawn, moved}
 use Rattle.asking.specs.Asking.{endsEarly, past, proposalOf, wantedOf, newcomerOf, checkInput, arrangeInput, addInput, withdrawInput, moveInput, changeInput}
 

@@ -23,7 +23,8 @@ use Rattle.stations.specs.declared.Verdict.the-variants.{Sound, Faulty}
 use Rattle.survey.specs.Ways.{everyRecord}
 use Rattle.desk.specs.Answers.{grant, deny, onTable, onAsked}
 use Rattle.desk.specs.Asked.{placeFault, askedFault}
-use Rattle.arrangements.specs.Arrange.{Scene, scene, arranged, arrangements, arrangedFor}
+use Rattle.planning.specs.Scene.{Scene, scene}
+use Rattle.arrangements.specs.Arrange.{arranged, arrangements, arrangedFor}
 use Rattle.asking.specs.Asking.{endsEarly, past, wantedOf, arrangeInput}
 use Rattle.asking.proofs.Fitting.{never, one-channel}
 

@@ -1,57 +1,33 @@
-// Sites at the limits, found by asking the second implementation.
+// Sites at the limits, by the pair rule of the second implementation.
 use super::chance::below;
 use super::chance::once_in;
-use super::image::Record;
-use super::image::put_header;
-use super::image::put_record;
 use super::words::LATITUDES;
 use super::words::LONGITUDES;
 use super::words::Site;
 use super::words::east;
 use super::words::north;
 use super::words::site_at;
-use wire::signed;
 ghost use Prim.Native.Nat.{_≤_};
-
-// The zone of a class: I for B1 and B, II for the others.
-fn zone_of(class: u32) -> u32 {
-    match class {
-        1 | 2 => 1,
-        _ => 3,
-    }
-}
 
 // R of two channels and two classes, 0 where there is none or the first channel cannot be asked.
 pub(crate) fn separation(channel1: u32, class1: u32, channel2: u32, class2: u32) -> u32 {
-    let mut table = [0u8; 24];
-    let record = Record {
-        id: 1,
-        channel: channel2,
-        class: class2,
-        flags: 0,
-        site: site_at(0, 0),
-    };
-    put_header(&mut table, 1);
-    put_record(&mut table, 0, record);
-    let mut rows = [0u32; 3];
-    second::check(
-        &table,
-        channel1,
-        class1,
-        zone_of(class1),
-        -270_000,
-        -648_000,
-        &mut rows,
-    );
-    rows[2]
+    if channel1 < 221 {
+        return 0;
+    }
+    if 300 < channel1 {
+        return 0;
+    }
+    second_rule::separation(
+        channel1 as u64,
+        class1 as u64,
+        channel2 as u64,
+        class2 as u64,
+    ) as u32
 }
 
 // Whether D of two sites on two latitudes, so many seconds of longitude from each other, is at least r.
 fn reaches(north1: u32, north2: u32, seconds: u32, r: u32) -> bool {
-    let a = site_at(north1, 0);
-    let b = site_at(north2, seconds);
-    let d = second::distance(signed(a.lat), signed(a.lon), signed(b.lat), signed(b.lon));
-    r as u64 <= d
+    r as u64 <= second_rule::kilometres(north1 as u64, 0, north2 as u64, seconds as u64)
 }
 
 // The fewest seconds of longitude at which two sites on two latitudes are at least r km from each other, found by halving.

@@ -25,8 +25,10 @@ use Rattle.stations.specs.declared.Verdict.the-variants.{Sound, Faulty}
 use Rattle.stations.proofs.Fine.{Good}
 use Rattle.stations.proofs.Places.{good-absent}
 use Rattle.desk.specs.Asked.{placeFault, askedFault}
-use Rattle.changes.specs.Lists.{insert, remove, onto, rechannel, Holds, Apart}
-use Rattle.changes.specs.Changes.{add, move, Decision, allow, refuse, not-for, past, shortTo, conflicts, entered, decide}
+use Rattle.granting.specs.Lists.{insert, remove, onto, rechannel}
+use Rattle.changes.specs.Lists.{Holds, Apart}
+use Rattle.finding.specs.Conflicts.{shortTo, conflicts}
+use Rattle.changes.specs.Changes.{add, move, Decision, allow, refuse, not-for, past, entered, decide}
 use Rattle.changes.specs.declared.Newcomer.{Newcomer}
 use Rattle.changes.proofs.Cases.{either}
 use Rattle.changes.proofs.Held.{find-held, one-held}

@@ -12,8 +12,10 @@ use Rattle.spacing.proofs.Meaning.{short-either, never-low}
 use Rattle.survey.specs.Ways.{asItStands}
 use Rattle.stations.specs.declared.Station.{Station}
 use Rattle.stations.proofs.Fine.{Good}
-use Rattle.changes.specs.Lists.{insert, remove, onto, rechannel, find, Apart, NoPair}
-use Rattle.changes.specs.Changes.{Change, add, withdraw, move, allow, shortTo, entered, decide}
+use Rattle.granting.specs.Lists.{insert, remove, onto, rechannel}
+use Rattle.changes.specs.Lists.{find, Apart, NoPair}
+use Rattle.finding.specs.Conflicts.{shortTo}
+use Rattle.changes.specs.Changes.{Change, add, withdraw, move, allow, entered, decide}
 use Rattle.changes.specs.declared.Newcomer.{Newcomer}
 use Rattle.changes.proofs.Cases.{either}
 use Rattle.changes.proofs.Held.{find-held}

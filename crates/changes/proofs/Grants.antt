@@ -17,8 +17,10 @@ use Rattle.stations.specs.declared.Station.{Station}
 use Rattle.stations.specs.declared.Verdict.{Verdict}
 use Rattle.stations.specs.declared.Verdict.the-variants.{Sound, Faulty}
 use Rattle.desk.specs.Asked.{askedFault}
-use Rattle.changes.specs.Lists.{insert, remove, onto, rechannel, find, Holds}
-use Rattle.changes.specs.Changes.{Change, add, withdraw, move, Decision, allow, refuse, past, conflicts, entered, decide}
+use Rattle.granting.specs.Lists.{insert, remove, onto, rechannel}
+use Rattle.changes.specs.Lists.{find, Holds}
+use Rattle.finding.specs.Conflicts.{conflicts}
+use Rattle.changes.specs.Changes.{Change, add, withdraw, move, Decision, allow, refuse, past, entered, decide}
 use Rattle.changes.specs.declared.Newcomer.{Newcomer}
 use Rattle.changes.proofs.Cases.{either}
 

@@ -16,7 +16,8 @@ use Rattle.stations.specs.declared.Station.{Station}
 use Rattle.stations.specs.declared.Judged.the-variants.{Table}
 use Rattle.stations.proofs.Table.{whole, next}
 use Rattle.stations.proofs.Back.{length-record, length-header}
-use Rattle.changes.specs.Lists.{insert, remove, onto, rechannel, Holds}
+use Rattle.granting.specs.Lists.{insert, remove, onto, rechannel}
+use Rattle.changes.specs.Lists.{Holds}
 use Rattle.changes.specs.Changes.{Change, add, withdraw, move, allow, entered, decide}
 use Rattle.changes.proofs.Cases.{either}
 use Rattle.changes.proofs.Held.{position, holds-at}

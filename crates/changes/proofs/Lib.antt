@@ -1,5 +1,4 @@
 pub mod Cases
-pub mod Cuts
 pub mod Held
 pub mod Grants
 pub mod Valid
@@ -7,6 +6,5 @@ pub mod Kept
 pub mod Apart
 pub mod Clean
 pub mod Results
-pub mod Images
 pub mod There
 pub mod Ways

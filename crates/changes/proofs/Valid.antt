@@ -20,11 +20,11 @@ use Rattle.stations.proofs.Table.{whole, length-stations}
 use Rattle.stations.proofs.Fine.{Fine, Good, good, good-flagged}
 use Rattle.stations.proofs.Back.{SmallIds, image-sound}
 use Rattle.desk.proofs.Asked.{fair}
-use Rattle.changes.specs.Lists.{insert, remove, onto, rechannel}
+use Rattle.granting.specs.Lists.{insert, remove, onto, rechannel}
 use Rattle.changes.specs.Changes.{Change, add, withdraw, move, allow, entered, decide}
 use Rattle.changes.specs.declared.Newcomer.{Newcomer}
 use Rattle.changes.proofs.Cases.{either}
-use Rattle.changes.proofs.Cuts.{length-insert, length-remove, length-rechannel}
+use Rattle.granting.proofs.Cuts.{length-insert, length-remove, length-rechannel}
 use Rattle.changes.proofs.Grants.{named, AddPasses, added, withdrawn, moved}
 
 -- ---- records that may follow each other

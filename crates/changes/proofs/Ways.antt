@@ -1,18 +1,18 @@
 -- The ways through a change, and what each answers. Assumes nothing.
 use mathlib.Core.Path.{_≡_, refl, sym, ap, _∙_}
-use mathlib.Core.Bool.{Bool, true, false, not, _||_}
+use mathlib.Core.Bool.{Bool, true, false, not}
 use mathlib.Core.List.{List}
 use Prim.Native.Nat.{ℕ, _≤_, _<_}
 use native.Mathlib.Omega.{arith}
-use lib.Dec.{ltb, leb, eqb}
+use lib.Dec.{leb}
 use lib.ListN.{length}
 use borrow.Author.Tests.{lt-ltb, le-ltb, eq-eqb, ne-eqb}
 use Rattle.ground.specs.Guard.{given}
 use Rattle.ground.specs.Lists.{some, first}
-use Rattle.ground.proofs.Guards.{guards, here, on}
+use Rattle.ground.proofs.Guards.{here, on}
 use Rattle.ground.proofs.Firsts.{some-first}
 use Rattle.refusals.specs.declared.Refusal.{Refusal}
-use Rattle.refusals.specs.Faults.{refusal, AskedChannel, IdZero, IdPresent, Short, TableFull, IdAbsent, NotMovable}
+use Rattle.refusals.specs.Faults.{AskedChannel, IdZero, IdPresent, Short, TableFull, IdAbsent, NotMovable}
 use Rattle.stations.specs.Version.{limit}
 use Rattle.stations.specs.Image.{stations, judged}
 use Rattle.stations.specs.Encode.{encode}
@@ -21,13 +21,15 @@ use Rattle.stations.specs.declared.Station.{Station}
 use Rattle.stations.specs.declared.Judged.{Judged}
 use Rattle.stations.specs.declared.Judged.the-variants.{Table, Refused as Refused′}
 use Rattle.stations.specs.declared.Verdict.the-variants.{Sound, Faulty}
-use Rattle.desk.specs.Answers.{Outcome, grant, Answered, leave}
+use Rattle.desk.specs.Answers.{grant, Answered, leave}
 use Rattle.desk.specs.Asked.{outside, askedFault}
 use Rattle.desk.specs.declared.Answer.{Answer}
 use Rattle.desk.specs.declared.Answer.the-variants.{Refused}
 use Rattle.desk.proofs.Answers.{denied, table-refused, table-passed}
-use Rattle.changes.specs.Lists.{insert, remove, rechannel, onto, find}
-use Rattle.changes.specs.Changes.{Change, add, withdraw, move, Decision, allow, refuse, not-for, conflicts, entered, entering, decide, written, changedFor}
+use Rattle.granting.specs.Lists.{insert, remove, rechannel, onto}
+use Rattle.changes.specs.Lists.{find}
+use Rattle.finding.specs.Conflicts.{conflicts}
+use Rattle.changes.specs.Changes.{Change, add, withdraw, move, Decision, allow, refuse, not-for, entered, entering, decide, written, changedFor}
 use Rattle.changes.specs.declared.Newcomer.{Newcomer}
 
 -- ---- from a decision to the answer

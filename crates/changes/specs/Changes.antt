@@ -1,6 +1,6 @@
 -- 01, The questions: Add, Withdraw and Move. One definition of the outcome: the list of stations that is granted, or the
 -- refusal; the image that is written is the encoding of that list. Assumes nothing.
-use mathlib.Core.Bool.{Bool, not, _&&_}
+use mathlib.Core.Bool.{not}
 use mathlib.Core.List.{List}
 use Prim.Native.Nat.{ℕ}
 use lib.Dec.{eqb, leb}
@@ -9,7 +9,6 @@ use Rattle.ground.specs.Guard.{given}
 use Rattle.ground.specs.Lists.{some, first}
 use Rattle.refusals.specs.declared.Refusal.{Refusal}
 use Rattle.refusals.specs.Faults.{Fault, refusal, AskedChannel, IdZero, IdPresent, Short, TableFull, IdAbsent, NotMovable}
-use Rattle.spacing.specs.Pair.{short}
 use Rattle.stations.specs.Version.{limit}
 use Rattle.stations.specs.Image.{stations, judged}
 use Rattle.stations.specs.Encode.{encode}
@@ -17,10 +16,11 @@ use Rattle.stations.specs.Lists.{hasId, movable}
 use Rattle.stations.specs.declared.Station.{Station}
 use Rattle.stations.specs.declared.Verdict.{Verdict}
 use Rattle.stations.specs.declared.Verdict.the-variants.{Sound, Faulty}
-use Rattle.survey.specs.Ways.{asItStands}
 use Rattle.desk.specs.Answers.{Outcome, grant, deny, onTable}
 use Rattle.desk.specs.Asked.{outside, askedFault}
-use Rattle.changes.specs.Lists.{insert, remove, onto, rechannel, find}
+use Rattle.finding.specs.Conflicts.{conflicts}
+use Rattle.granting.specs.Lists.{insert, remove, onto, rechannel}
+use Rattle.changes.specs.Lists.{find}
 use Rattle.changes.specs.declared.Newcomer.{Newcomer}
 
 -- what is asked for
@@ -40,14 +40,6 @@ not-for f = refuse (refusal f)
 abbrev pub past : Verdict → Decision → Decision
 past Sound d = d
 past (Faulty f) d = refuse f
-
--- two stations are short to each other
-abbrev pub shortTo : Station → Station → Bool
-shortTo r x = short (asItStands r) (asItStands x)
-
--- another record, that the station is short to
-unfoldable pub conflicts : Station → Station → Bool
-conflicts r x = not (hasId (r .id) x) && shortTo r x
 
 -- the record of a newcomer: flags 0
 abbrev pub entered : Newcomer → Station

@@ -2,15 +2,10 @@
 ghost use mathlib.Core.Path.{_≡_};
 ghost use Rattle.desk.specs.Answers.{Answered};
 ghost use Rattle.changes.specs.Changes.{add as adding, withdraw as withdrawing, move as moving, entering, written, changedFor};
-ghost use Rattle.changes.specs.Lists.{onto};
+ghost use Rattle.granting.specs.Lists.{onto};
 ghost use Rattle.spacing.specs.Limits.{Sound};
 ghost use Rattle.stations.specs.Image.{stations, judged};
 ghost use Rattle.stations.specs.declared.Judged.the-variants.{Table};
-
-mod finding;
-mod granting;
-mod writing;
-
 use desk::Answer;
 use finding::first_conflict;
 use finding::is_there;

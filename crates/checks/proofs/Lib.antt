@@ -1,4 +1,2 @@
 pub mod Meaning
-pub mod Columns
-pub mod Noting
 pub mod Listing

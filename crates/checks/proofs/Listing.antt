@@ -16,8 +16,9 @@ use Rattle.part73.specs.TableA.{km as tableA}
 use Rattle.spacing.specs.Pair.{Assignment, assignment, separation, squareOf, distanceOf}
 use Rattle.stations.specs.Image.{stationAt}
 use Rattle.stations.specs.declared.Station.{Station}
-use Rattle.checks.specs.Check.{shortPositions, rowOf, shortRows}
-use Rattle.checks.specs.Walk.{Noted}
+use Rattle.nearby.specs.Positions.{shortPositions}
+use Rattle.checks.specs.Check.{rowOf, shortRows}
+use Rattle.nearby.specs.Walk.{Noted}
 
 -- the numbers of one row, from the record as it was read
 pub row-is : (s : List ℕ) (channel class : ℕ) (lat lon : ℤ) (i : ℕ) (r : Station) (d w : ℕ) → r ≡ stationAt s i → d ≡ km (S lat lon (r .latitude) (r .longitude)) → w ≡ separation tableA channel class (r .channel) (r .class) → r .id ∷ d ∷ w ∷ [] ≡ flat (rowOf s (assignment channel class lat lon) i ∷ [])

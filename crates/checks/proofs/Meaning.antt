@@ -23,7 +23,8 @@ use Rattle.desk.specs.Answers.{grant, Answered}
 use Rattle.desk.specs.Asked.{askedFault}
 use Rattle.desk.specs.declared.Answer.{Answer}
 use Rattle.desk.proofs.Answers.{one-answer}
-use Rattle.checks.specs.Check.{asked, shortPositions, rowOf, shortRows, checkedFor}
+use Rattle.nearby.specs.Positions.{shortPositions}
+use Rattle.checks.specs.Check.{asked, rowOf, shortRows, checkedFor}
 use Rattle.checks.specs.Meaning.{Short, ShortRow, Before}
 use Rattle.checks.specs.declared.Proposal.{Proposal}
 

@@ -2,13 +2,13 @@
 use Prim.Native.Nat.{ℕ}
 use mathlib.Core.Bool.{Bool}
 use mathlib.Core.List.{List, map}
-use Rattle.ground.specs.Lists.{span, keep}
 use Rattle.ground.specs.Rows.{Row, row, flat}
 use Rattle.part73.specs.TableA.{km as tableA}
 use Rattle.spacing.specs.Pair.{Assignment, assignment, separation, distanceOf}
 use Rattle.stations.specs.Image.{stationAt, count, judged}
 use Rattle.stations.specs.declared.Station.{Station}
-use Rattle.survey.specs.Ways.{asItStands, everyRecord, blocks}
+use Rattle.survey.specs.Ways.{asItStands, everyRecord}
+use Rattle.nearby.specs.Positions.{shortPositions}
 use Rattle.desk.specs.Answers.{Outcome, grant, onTable, onAsked}
 use Rattle.desk.specs.Asked.{askedFault}
 use Rattle.checks.specs.declared.Proposal.{Proposal}
@@ -16,10 +16,6 @@ use Rattle.checks.specs.declared.Proposal.{Proposal}
 -- what is proposed, as a pair is held by it
 abbrev pub asked : Proposal → Assignment
 asked p = assignment (p .channel) (p .class) (p .latitude) (p .longitude)
-
--- the positions of the short stations, of the n records those that are looked at, in table order
-unfoldable pub shortPositions : (Station → Bool) → List ℕ → ℕ → Assignment → List ℕ
-shortPositions look s n p = keep (blocks look s p) (span 0 n)
 
 -- id, D, R of the record at a position
 unfoldable pub rowOf : List ℕ → Assignment → ℕ → Row

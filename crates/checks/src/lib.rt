@@ -8,14 +8,11 @@ ghost use Rattle.stations.specs.declared.Judged.the-variants.{Table};
 ghost use Rattle.survey.specs.Ways.{everyRecord};
 ghost use Rattle.desk.specs.Answers.{Answered, grant};
 ghost use Rattle.checks.specs.Check.{shortRows, checkedFor};
-ghost use Rattle.checks.specs.Walk.{Asked};
+ghost use Rattle.nearby.specs.Walk.{Asked};
 
-mod finding;
-mod nearness;
 mod writing;
 
 use desk::Answer;
-use finding::find;
 use stations::Judged;
 use stations::Verdict;
 use writing::put_rows;
@@ -55,7 +52,7 @@ fn list(
     ensures { λ r. ⌜ Answered (grant (flat (shortRows everyRecord (now (table .entry)) n (assignment channel class lat lon)))) (now (rows .entry)) (now (rows .exit)) r ⌝ }
 {
     let mut hits = [NO_POSITION; 2000];
-    let k = find(table, n, channel, class, lat, lon, &mut hits);
+    let k = nearby::find(table, n, channel, class, lat, lon, &mut hits);
     let need = numbers_of(k);
     if rows.len() < need {
         let extra = need as u32;

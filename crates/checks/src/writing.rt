@@ -10,8 +10,9 @@ ghost use Rattle.spacing.specs.Pair.{assignment};
 ghost use Rattle.stations.specs.Image.{judged};
 ghost use Rattle.stations.specs.declared.Judged.the-variants.{Table};
 ghost use Rattle.survey.specs.Ways.{everyRecord};
-ghost use Rattle.checks.specs.Check.{shortPositions, rowOf, shortRows};
-ghost use Rattle.checks.specs.Walk.{Noted};
+ghost use Rattle.nearby.specs.Positions.{shortPositions};
+ghost use Rattle.checks.specs.Check.{rowOf, shortRows};
+ghost use Rattle.nearby.specs.Walk.{Noted};
 
 // D of two sites.
 fn km_between(lat: i32, lon: i32, lat2: i32, lon2: i32) -> u32

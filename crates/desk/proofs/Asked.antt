@@ -1,17 +1,15 @@
 -- What a question that passed its own checks tells. Assumes nothing.
-use mathlib.Core.Path.{_≡_, refl, sym, ap, _∙_}
-use mathlib.Core.Bool.{Bool, true, false, not, _&&_, _||_}
+use mathlib.Core.Path.{_≡_}
+use mathlib.Core.Bool.{true, false, not}
 use Prim.Native.Nat.{ℕ, _≤_, _<_}
 use native.Mathlib.Omega.{arith}
 use lib.Dec.{leb, ltb}
 use lib.IntN.{ℤ, natAbs}
 use borrow.Author.Tests.{leb-true, ltb-false, not-false}
-use Rattle.ground.specs.Guard.{given}
 use Rattle.ground.proofs.Guards.{past, or-was, and-was}
 use Rattle.distance.specs.Distance.{latitudeOk, longitudeOk, Placed}
 use Rattle.part73.specs.Classes.{isClass}
 use Rattle.refusals.specs.declared.Refusal.{Refusal}
-use Rattle.stations.specs.declared.Verdict.{Verdict}
 use Rattle.stations.specs.declared.Verdict.the-variants.{Sound, Faulty}
 use Rattle.desk.specs.Asked.{outside, siteOk, placeFault, askedFault}
 

@@ -1,6 +1,6 @@
 -- The series: its terms never grow, so its sum is a natural number that is at most E. Assumes nothing.
-use mathlib.Core.Path.{_≡_, refl, sym, ap, ap₂, _∙_, subst}
-use Prim.Native.Nat.{ℕ, zero, suc, _+_, _-_, _*_, _/_, _≤_, _<_}
+use mathlib.Core.Path.{_≡_, refl, sym, ap, _∙_, subst}
+use Prim.Native.Nat.{ℕ, suc, _+_, _-_, _*_, _/_, _≤_}
 use native.Mathlib.Nat.{le-refl, le-trans, mul-le-mul-left, mul-le-mul-right, mul-le-mul, div-le-of-le-mul}
 use lib.Dec.{lit≤}
 use native.Mathlib.Omega.{arith}

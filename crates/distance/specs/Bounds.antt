@@ -1,5 +1,5 @@
 -- Inside: what bounds the length of a degree of longitude near a latitude. Assumes nothing.
-use Prim.Native.Nat.{ℕ, _≤_, _<_}
+use Prim.Native.Nat.{ℕ, _≤_}
 use lib.IntN.{ℤ, natAbs}
 use Rattle.distance.specs.Distance.{hOf, latGap, Q}
 

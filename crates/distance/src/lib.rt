@@ -1,6 +1,6 @@
 // The distance of two sites in whole numbers: 47 CFR 73.208(c), as 01 puts it in integers.
 ghost use mathlib.Core.Path.{_≡_};
-ghost use Prim.Native.Nat.{ℕ, _+_, _*_, _≤_, _<_};
+ghost use Prim.Native.Nat.{_+_, _*_, _≤_, _<_};
 ghost use lib.IntN.{ℤ, pos, natAbs, _+ℤ_, _-ℤ_, _*ℤ_};
 ghost use Rattle.distance.specs.Distance.{_÷_, E, next, series, lonGap, P, Q, S, root, km, latitudeOk, longitudeOk, Placed};
 ghost use Rattle.distance.specs.Bounds.{LeastScale, MostHalves};

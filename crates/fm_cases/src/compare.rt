@@ -5,18 +5,18 @@ use super::question::first_rows;
 use super::question::second_image;
 use super::question::second_number;
 use super::question::second_rows;
-use super::report::long;
-use super::report::report;
-use super::report::wide;
-use super::tally::Notes;
-use super::tally::extra_of;
-use super::tally::mix;
-use super::tally::note;
-use super::tally::number_of;
 use cases::DISTANCE;
 use cases::MOVE;
 use cases::Question;
 use cases::below;
+use tally::Notes;
+use tally::extra_of;
+use tally::long;
+use tally::mix;
+use tally::note;
+use tally::number_of;
+use tally::report;
+use tally::wide;
 ghost use Prim.Native.Nat.{_≤_, _<_};
 
 // The places of a buffer for an image.

@@ -1,7 +1,6 @@
 // Runs of made cases.
 use super::compare::compare;
 use super::compare::least;
-use super::tally::Notes;
 use cases::ADD;
 use cases::ARRANGE;
 use cases::CHECK;
@@ -16,6 +15,7 @@ use cases::damaged;
 use cases::first_id;
 use cases::made_question;
 use cases::made_table;
+use tally::Notes;
 ghost use Prim.Native.Nat.{_≤_};
 
 // Asked in a run in place of one question: every question on a table but arrange.

@@ -3,8 +3,6 @@ mod compare;
 mod made;
 mod paper;
 mod question;
-mod report;
-mod tally;
 
 use cases::ADD;
 use cases::ARRANGE;

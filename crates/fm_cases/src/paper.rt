@@ -4,8 +4,6 @@ use super::compare::compare_number;
 use super::question::first_rows;
 use super::question::second_number;
 use super::question::second_rows;
-use super::report::report;
-use super::tally::Notes;
 use cases::ARRANGE;
 use cases::CHECK;
 use cases::DISTANCE;
@@ -14,6 +12,8 @@ use cases::Record;
 use cases::Site;
 use cases::put_header;
 use cases::put_record;
+use tally::Notes;
+use tally::report;
 ghost use Prim.Native.Nat.{_≤_, _<_};
 
 // Three numbers of a row.

@@ -16,9 +16,6 @@ x ∈ l = List·Memᴰ x l
 -- ---- who stands in a list
 
 module _ {A : Type 0} where
-  pub in-append : {x : A} (l m : List A) → (x ∈ (l ++ m)) ↔ ((x ∈ l) ⊎ (x ∈ m))
-  in-append l m = (List·Memᴰ·append-cases l, ⊎-elim (Memᴰ·append-left m) (Memᴰ·append-right l))
-
   pub in-keep : {x : A} (p : A → Bool) (l : List A) → (x ∈ keep p l) ↔ ((x ∈ l) × (p x ≡ true))
   unfolding keep
   in-keep p [] = (λ m. absurd (List·Memᴰ·not-nil m), λ m. m .0)
@@ -126,13 +123,6 @@ module _ {A : Type 0} where
     ascending-append (x ∷ l) m a b h =
         ahead (λ y n. ⊎-elim (ahead-of a y) (λ (o : y ∈ m). h x y (List·Memᴰ·head refl) o) (List·Memᴰ·append-cases l n))
         (ascending-append l m (rest-of a) b (λ u v i j. h u v (List·Memᴰ·tail i) j))
-
-    -- one list that ascends by a second order too
-    pub ascending-by : {after : A → A → Type 0} (l : List A) → Ascending before l → ((x y : A) → x ∈ l → y ∈ l → before x y → after x y) → Ascending after l
-    ascending-by [] a h = none
-    ascending-by (x ∷ l) a h =
-        ahead (λ y m. h x y (List·Memᴰ·head refl) (List·Memᴰ·tail m) (ahead-of a y m))
-        (ascending-by l (rest-of a) (λ u v i j. h u v (List·Memᴰ·tail i) (List·Memᴰ·tail j)))
 
 module _ {A B : Type 0} {before : A → A → Type 0} {after : B → B → Type 0} where
   -- a function that keeps the order

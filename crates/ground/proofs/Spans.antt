@@ -1,10 +1,9 @@
 -- Laws on `span`, `each`, `keep`, `every`. Assumes nothing.
-use mathlib.Core.Path.{_≡_, refl, sym, ap, _∙_, subst}
-use mathlib.Core.Bool.{Bool, true, false, cond, not, _&&_, _||_, and-false}
+use mathlib.Core.Path.{_≡_, refl, ap, _∙_}
+use mathlib.Core.Bool.{Bool, true, false, cond, _&&_, and-false}
 use mathlib.Core.List.{List, [], _∷_, _++_, append-nil, append-assoc}
 use Prim.Native.Nat.{ℕ, zero, suc, _+_, _-_, _*_, _≤_, _<_}
 use native.Mathlib.Nat.{mul-suc}
-use native.Mathlib.Numerals.{add-one}
 use native.Mathlib.Omega.{arith}
 use native.Mathlib.Decide.{ℕ-discrete}
 use lib.Arith.{lt-of-le-ne}
@@ -80,14 +79,6 @@ every-false p (suc n) a i lo hi e = go (ℕ-discrete a i) (λ ne. every-false p 
     go : Dec (a ≡ i) → ((a ≡ i → ⊥) → every p (span (suc a) n) ≡ false) → (p a && every p (span (suc a) n)) ≡ false
     go (yes q) ih = rw (ap p q ∙ e)
     go (no ne) ih = rw (ih ne) (and-false (p a))
-
-pub every-cons : (p : ℕ → Bool) (i b : ℕ) → i < b → every p (span i (b - i)) ≡ (p i && every p (span (i + 1) (b - (i + 1))))
-unfolding every
-every-cons p i b h = rw (span-cons i b h, add-one i)
-
-pub every-done : (p : ℕ → Bool) (i b : ℕ) → b ≤ i → every p (span i (b - i)) ≡ true
-unfolding every
-every-done p i b h = ap (every p) (span-done i b h)
 
 -- ---- keep
 

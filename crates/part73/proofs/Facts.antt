@@ -1,6 +1,6 @@
 -- Table A is a table of separations, by tests that antt computes over the whole table; and what each column means.
 -- Assumes nothing.
-use mathlib.Core.Path.{_≡_, refl}
+use mathlib.Core.Path.{_≡_}
 use Prim.Native.Nat.{ℕ, zero, suc, _≤_, _<_}
 use native.Mathlib.Omega.{arith}
 use lib.Dec.{T, leb, ltb, eqb, lit<, ltb→lt, leb→le, eqb→eq}

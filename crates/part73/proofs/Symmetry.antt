@@ -1,11 +1,10 @@
 -- Table A has no order of the two classes.
 -- Assumes nothing.
 use mathlib.Core.Path.{_≡_, refl, _∙_}
-use mathlib.Core.Bool.{_&&_, _||_, and-comm, or-comm}
+use mathlib.Core.Bool.{_&&_, and-comm, or-comm}
 use mathlib.Core.List.{List, [], _∷_}
 use Prim.Native.Nat.{ℕ}
 use lib.Dec.{eqb}
-use lib.ListN.{getD}
 use Rattle.part73.specs.TableA.{Relation, _to_∶_, between, relation, tableA, km}
 
 between-swap : (a b : ℕ) (r : Relation) → between a b r ≡ between b a r

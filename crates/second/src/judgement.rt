@@ -16,8 +16,8 @@ use super::big_endian::two;
 use super::records::Station;
 use super::records::id_at;
 use super::records::station_at;
-use super::sites::LATITUDES;
-use super::sites::LONGITUDES;
+use second_rule::LATITUDES;
+use second_rule::LONGITUDES;
 ghost use Prim.Native.Nat.{_≤_};
 
 // The most stations that a table holds.

@@ -11,10 +11,7 @@ mod proposal;
 mod reading;
 mod records;
 mod rows;
-mod separation;
 mod shortness;
-mod signed;
-mod sites;
 
 pub use editing::add;
 pub use editing::move_to;

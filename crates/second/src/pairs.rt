@@ -1,8 +1,8 @@
 // Who is short to whom.
 use super::records::Station;
 use super::records::station_at;
-use super::separation::separation;
-use super::sites::kilometres;
+use second_rule::kilometres;
+use second_rule::separation;
 ghost use Prim.Native.Nat.{_≤_};
 
 // Whether two stations are short: D below R.

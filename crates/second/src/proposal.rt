@@ -8,8 +8,8 @@ use super::big_endian::word;
 use super::records::Station;
 use super::records::east;
 use super::records::north;
-use super::sites::LATITUDES;
-use super::sites::LONGITUDES;
+use second_rule::LATITUDES;
+use second_rule::LONGITUDES;
 ghost use Prim.Native.Nat.{_≤_};
 
 // Whether a site is out of range.

@@ -5,7 +5,7 @@ use super::answer::refused;
 use super::judgement::judge;
 use super::proposal::out_of_range;
 use super::proposal::proposed;
-use super::sites::kilometres;
+use second_rule::kilometres;
 ghost use Rattle.second.specs.Answer.{Packed};
 
 // The number of stations of a table, or its refusal.

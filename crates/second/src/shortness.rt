@@ -7,8 +7,8 @@ use super::proposal::proposed;
 use super::records::Station;
 use super::records::station_at;
 use super::rows::put_row;
-use super::separation::separation;
-use super::sites::kilometres;
+use second_rule::kilometres;
+use second_rule::separation;
 ghost use Prim.Native.Nat.{_+_, _≤_};
 ghost use Rattle.second.specs.Answer.{Packed};
 

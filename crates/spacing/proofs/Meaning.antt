@@ -1,14 +1,14 @@
 -- What the pair rule means: short is the same in either order of the pair; no pair at or below 220, and none at another
 -- difference than 0, 1, 2, 3, 53 and 54, is short. Over any table of separations. Assumes nothing.
-use mathlib.Core.Path.{_≡_, refl, sym, ap, _∙_}
-use mathlib.Core.Bool.{false, _&&_, and-comm}
+use mathlib.Core.Path.{_≡_, sym, ap, _∙_}
+use mathlib.Core.Bool.{false, and-comm}
 use mathlib.Core.Logic.{_⊎_, inl, inr}
-use Prim.Native.Nat.{ℕ, _+_, _-_, _≤_, _<_}
+use Prim.Native.Nat.{ℕ, _-_, _≤_, _<_}
 use native.Mathlib.Nat.{add-comm}
 use native.Mathlib.Omega.{arith}
 use native.Mathlib.Decide.{decLt}
 use lib.Dec.{leb}
-use Rattle.distance.specs.Distance.{S, km as rounded}
+use Rattle.distance.specs.Distance.{S}
 use Rattle.distance.proofs.Squares.{S-sym}
 use Rattle.part73.specs.Columns.{gap, none, column}
 use Rattle.part73.specs.Separations.{Separations}

@@ -1,14 +1,12 @@
 -- The latitudes alone, or the longitudes alone, put two sites as far apart as a limit. Assumes nothing.
 use mathlib.Core.Path.{_≡_, refl, sym, ap, _∙_}
 use mathlib.Core.List.{List}
-use Prim.Native.Nat.{ℕ, zero, suc, _+_, _-_, _*_, _/_, _%_, _≤_, _<_}
-use native.Mathlib.Nat.{le-trans, lt-of-lt-of-le, le-of-lt, mul-le-mul, mul-le-mul-right, mod-lt, div-add-mod', add-mul}
+use Prim.Native.Nat.{ℕ, zero, suc, _+_, _-_, _*_, _/_, _≤_, _<_}
+use native.Mathlib.Nat.{le-trans, mul-le-mul, mul-le-mul-right, mod-lt, div-add-mod', add-mul}
 use native.Mathlib.Omega.{arith}
 use lib.Dec.{lit<}
-use lib.IntN.{ℤ, natAbs}
-use lib.ListN.{getD}
+use lib.IntN.{ℤ}
 use borrow.Author.Tests.{lt-ltb, le-ltb}
-use Rattle.ground.specs.Guard.{given}
 use Rattle.ground.proofs.Guards.{here, on}
 use Rattle.ground.proofs.Filling.{Filled}
 use Rattle.distance.specs.Distance.{S, latGap, lonGap, Placed}

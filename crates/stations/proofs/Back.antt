@@ -13,7 +13,7 @@ use Rattle.ground.specs.Lists.{build, each}
 use Rattle.ground.proofs.Guards.{guards}
 use Rattle.ground.proofs.Signed.{fit32}
 use Rattle.wire.specs.Be.{be, bytes}
-use Rattle.wire.proofs.Width.{Bytes, be-bytes, be-lt, length-bytes}
+use Rattle.wire.proofs.Width.{be-bytes, length-bytes}
 use Rattle.distance.specs.Distance.{latitudeOk, longitudeOk}
 use Rattle.stations.specs.Image.{stationAt, stations, count, headed, numbers, judged, scan, scanned, verdict}
 use Rattle.stations.specs.Version.{top, limit, versionOf}
@@ -54,16 +54,6 @@ fine-sized r f h =
 pub good-sized : (rs : List Station) (t last : ℕ) → Good t last rs → SmallIds rs → AllSized rs
 good-sized [] t last g h = tt
 good-sized (r ∷ rs) t last g h = (fine-sized r (g .0) (h .0), good-sized rs t (r .id) (g .1) (h .1))
-
--- the ids of an image of bytes fit
-small-build : (n : ℕ) (f : ℕ → Station) → ((i : ℕ) → f i .id < 2 ^ 32) → SmallIds (build n f)
-unfolding build
-small-build zero f h = tt
-small-build (suc n) f h = (h zero, small-build n (λ i. f (suc i)) (λ i. h (suc i)))
-
-pub small-stations : (s : List ℕ) → Bytes s → SmallIds (stations s)
-unfolding stations stationAt
-small-stations s b = small-build (count s) (stationAt s) (λ i. be-lt 4 s (8 + 16 * i) b)
 
 -- k bytes of v that stand at `at`
 field : (k v at : ℕ) (s p q : List ℕ) → s ≡ p ++ (bytes k v ++ q) → length p ≡ at → v < 256 ^ k → be k s at ≡ v

@@ -7,9 +7,9 @@ use native.Mathlib.Omega.{arith}
 use native.Mathlib.Decide.{ℕ-discrete, decLt}
 use lib.Dec.{eqb, leb}
 use lib.ListN.{length, drop}
-use borrow.Author.Tests.{eq-eqb, ne-eqb, eqb-true, leb-true, leb-false, le-leb, lt-leb, ltb-true}
+use borrow.Author.Tests.{eq-eqb, ne-eqb, eqb-true, leb-true, le-leb, lt-leb, ltb-true}
 use Rattle.ground.specs.Lists.{some, first}
-use Rattle.ground.proofs.Firsts.{first-le, first-found, first-past, some-first, some-at}
+use Rattle.ground.proofs.Firsts.{first-le, first-found, some-first, some-at}
 use Rattle.stations.specs.Image.{stationAt, stations, version, judged}
 use Rattle.stations.specs.Version.{top}
 use Rattle.stations.specs.Lists.{hasId, fromId}
@@ -79,21 +79,8 @@ module _ (s : List ℕ) (n : ℕ) (e : judged s ≡ Table n) (id : ℕ) where
       let w = whole s n e in
       good-order (stations s) (top (version s)) 0 i j (stationAt s i) (stationAt s j) _ _ (good s n e) l (next w i (omega arith)) (next w j h)
 
-  -- those before the place are smaller
-  pub before-place : (i : ℕ) → i < place → stationAt s i .id < id
-  before-place i h =
-      leb-false id (stationAt s i .id) (first-past (fromId id) (stations s) i (stationAt s i) _ (next (whole s n e) i (omega (arith, place-le))) h)
-
   at-place : place < n → id ≤ stationAt s place .id
   at-place h = leb-true id (stationAt s place .id) (first-found (fromId id) (stations s) (stationAt s place) _ (next (whole s n e) place h))
-
-  -- those from it on are not
-  pub from-place : (i : ℕ) → place ≤ i → i < n → id ≤ stationAt s i .id
-  from-place i l h = go (ℕ-discrete place i)
-    where
-      go : Dec (place ≡ i) → id ≤ stationAt s i .id
-      go (yes q) = rw q at (at-place (omega arith))
-      go (no ne) = omega (arith, at-place (omega arith), ascending place i (omega arith) h)
 
   -- a record there with the id is one of the list
   pub present : place < n → stationAt s place .id ≡ id → some (hasId id) (stations s) ≡ true

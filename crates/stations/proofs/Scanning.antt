@@ -2,12 +2,12 @@
 use mathlib.Core.Path.{_≡_, refl, sym, _∙_, ap}
 use mathlib.Core.Bool.{Bool, true, false, false≢true}
 use mathlib.Core.List.{List}
-use Prim.Native.Nat.{ℕ, zero, suc, _+_, _*_, _/_, _≤_, _<_}
+use Prim.Native.Nat.{ℕ, _+_, _*_, _/_, _≤_, _<_}
 use native.Mathlib.Numerals.{add-one}
 use native.Mathlib.Omega.{arith}
 use Rattle.wire.specs.Be.{be}
 use Rattle.stations.specs.Image.{stationFrom, stationAt, version, verdict, scanned}
-use Rattle.stations.specs.Scanning.{idBefore, scannedFrom, Ahead, Passed, SoundTo}
+use Rattle.stations.specs.Scanning.{idBefore, scannedFrom, Ahead, Passed}
 use Rattle.stations.specs.Version.{top}
 use Rattle.stations.specs.declared.Station.{Station}
 use Rattle.stations.specs.declared.Verdict.{Verdict}

@@ -46,7 +46,3 @@ limit-small = omega arith
 pub version-small : (rs : List Station) → versionOf rs < 65536
 unfolding versionOf
 version-small rs = omega arith
-
-pub top-small : (v : ℕ) → top v < 256
-unfolding top
-top-small v = omega arith

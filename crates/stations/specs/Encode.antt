@@ -1,5 +1,5 @@
 -- 01, The table image: the image of a list of stations. Assumes nothing.
-use mathlib.Core.List.{List, [], _∷_, _++_}
+use mathlib.Core.List.{List, _∷_, _++_}
 use Prim.Native.Nat.{ℕ}
 use lib.ListN.{length}
 use mir.Syntax.{w32}

@@ -1,22 +1,11 @@
 -- `changes::add` meets its contract. Assumes nothing.
-use mathlib.Core.Path.{_≡_, sym, ap, _∙_}
-use mathlib.Core.Bool.{true, false}
-use mathlib.Core.List.{List}
-use Prim.Native.Nat.{ℕ, _≤_, _<_}
+use mathlib.Core.Path.{_≡_, sym, _∙_}
 use native.Mathlib.Omega.{arith}
-use lib.Dec.{leb}
-use lib.ListN.{length}
-use borrow.Author.Tests.{leb-false, lt-ltb, le-ltb, not-true, not-false}
-use Rattle.ground.specs.Lists.{some, first}
-use Rattle.stations.specs.Image.{stationAt, stations, judged}
-use Rattle.stations.specs.Lists.{hasId, movable}
+use Rattle.stations.specs.Image.{judged}
 use Rattle.stations.specs.declared.Judged.the-variants.{Table}
-use Rattle.desk.proofs.Answers.{denied}
-use Rattle.changes.specs.Changes.{conflicts}
 use mir.Syntax.{w32}
 use mir.Val.{SFits, toZ, ofZ}
 use mir.ValLaws.{toZ-ofZ}
-use Rattle.spacing.specs.Limits.{Sound as Sound′}
 use Rattle.stations.specs.declared.Verdict.the-variants.{Sound}
 use Rattle.desk.specs.Asked.{askedFault}
 use Rattle.desk.proofs.Asked.{Fair, fair}

@@ -1,19 +1,16 @@
 -- `changes::enter` meets its contract. Assumes nothing.
-use mathlib.Core.Path.{_≡_, sym, ap, _∙_}
-use mathlib.Core.Bool.{true, false}
-use mathlib.Core.List.{List}
-use Prim.Native.Nat.{ℕ, _≤_, _<_}
+use mathlib.Core.Path.{_≡_, sym, _∙_}
+use mathlib.Core.Bool.{false}
 use native.Mathlib.Omega.{arith}
 use lib.Dec.{leb}
 use lib.ListN.{length}
-use borrow.Author.Tests.{leb-false, lt-ltb, le-ltb, not-true, not-false}
-use Rattle.ground.specs.Lists.{some, first}
-use Rattle.stations.specs.Image.{stationAt, stations, judged}
-use Rattle.stations.specs.Lists.{hasId, movable}
-use Rattle.stations.specs.declared.Judged.the-variants.{Table}
+use borrow.Author.Tests.{leb-false}
+use Rattle.ground.specs.Lists.{some}
+use Rattle.stations.specs.Image.{stations}
+use Rattle.stations.specs.Lists.{hasId}
 use Rattle.desk.proofs.Answers.{denied}
-use Rattle.changes.specs.Changes.{conflicts}
-use Rattle.changes.proofs.Images.{Ready, ready, within, find-at, first-at}
+use Rattle.finding.specs.Conflicts.{conflicts}
+use Rattle.granting.proofs.Ready.{Ready, ready, first-at}
 use Rattle.stations.specs.Version.{limit}
 use Rattle.changes.proofs.Ways.{found, found-none, zero-id, present-id, short-one, full-table, entered-at}
 use borrow.Author.Needs.{needs}

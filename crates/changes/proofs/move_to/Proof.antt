@@ -1,26 +1,24 @@
 -- `changes::move_to` meets its contract. Assumes nothing.
 use mathlib.Core.Path.{_≡_, sym, ap, _∙_}
 use mathlib.Core.Bool.{true, false}
-use mathlib.Core.List.{List}
-use Prim.Native.Nat.{ℕ, _≤_, _<_}
+use Prim.Native.Nat.{ℕ, _<_}
 use native.Mathlib.Omega.{arith}
-use lib.Dec.{leb}
-use lib.ListN.{length}
-use borrow.Author.Tests.{leb-false, lt-ltb, le-ltb, not-true, not-false}
+use borrow.Author.Tests.{lt-ltb, le-ltb, not-true, not-false}
 use Rattle.ground.specs.Lists.{some, first}
 use Rattle.stations.specs.Image.{stationAt, stations, judged}
 use Rattle.stations.specs.Lists.{hasId, movable}
 use Rattle.stations.specs.declared.Judged.the-variants.{Table}
-use Rattle.desk.proofs.Answers.{denied}
-use Rattle.changes.specs.Changes.{Decision, conflicts}
-use Rattle.changes.proofs.Images.{Ready, ready, within, find-at, first-at}
+use Rattle.finding.specs.Conflicts.{conflicts}
+use Rattle.changes.specs.Changes.{Decision}
+use Rattle.granting.proofs.Ready.{Ready, ready, within, own-id, first-at}
+use Rattle.changes.proofs.There.{find-at}
 use Rattle.stations.specs.declared.Station.{Station}
 use Rattle.desk.specs.Asked.{outside}
-use Rattle.survey.proofs.Records.{Known, known-at, room-at}
-use Rattle.changes.specs.Lists.{onto, find}
-use Rattle.changes.proofs.Cuts.{find-absent}
+use Rattle.survey.proofs.Records.{known-at, room-at}
+use Rattle.granting.specs.Lists.{onto}
+use Rattle.changes.specs.Lists.{find}
+use Rattle.changes.proofs.Held.{find-absent}
 use Rattle.changes.proofs.Ways.{table-out, refused-by, granted-by, found, found-none, move-outside, move-absent, move-fixed, move-short, move-granted}
-use Rattle.changes.proofs.Images.{own-id}
 use borrow.Author.Needs.{needs}
 use Rattle.changes.proofs.move_to.Statement.{statement}
 use Rattle.changes.proofs.move_to.Tie as tie

@@ -1,19 +1,11 @@
 -- `changes::withdraw` meets its contract. Assumes nothing.
-use mathlib.Core.Path.{_≡_, sym, ap, _∙_}
-use mathlib.Core.Bool.{true, false}
-use mathlib.Core.List.{List}
-use Prim.Native.Nat.{ℕ, _≤_, _<_}
-use native.Mathlib.Omega.{arith}
-use lib.Dec.{leb}
-use lib.ListN.{length}
-use borrow.Author.Tests.{leb-false, lt-ltb, le-ltb, not-true, not-false}
-use Rattle.ground.specs.Lists.{some, first}
-use Rattle.stations.specs.Image.{stationAt, stations, judged}
-use Rattle.stations.specs.Lists.{hasId, movable}
+use mathlib.Core.Path.{_≡_, sym, _∙_}
+use mathlib.Core.Bool.{true}
+use borrow.Author.Tests.{not-true, not-false}
+use Rattle.ground.specs.Lists.{some}
+use Rattle.stations.specs.Image.{stations, judged}
+use Rattle.stations.specs.Lists.{hasId}
 use Rattle.stations.specs.declared.Judged.the-variants.{Table}
-use Rattle.desk.proofs.Answers.{denied}
-use Rattle.changes.specs.Changes.{conflicts}
-use Rattle.changes.proofs.Images.{Ready, ready, within, find-at, first-at}
 use Rattle.changes.proofs.Ways.{table-out, refused-by, granted-by, withdraw-absent, withdraw-present}
 use borrow.Author.Needs.{needs}
 use Rattle.changes.proofs.withdraw.Statement.{statement}

@@ -1,5 +1,5 @@
 -- `distance::gap_size` meets its contract. Assumes nothing.
-use mathlib.Core.Path.{_≡_, _∙_}
+use mathlib.Core.Path.{_∙_}
 use native.Mathlib.Omega.{arith}
 use lib.IntN.{_-ℤ_}
 use mir.Syntax.{w32}

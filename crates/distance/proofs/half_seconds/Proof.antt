@@ -1,7 +1,7 @@
 -- `distance::half_seconds` meets its contract. Assumes nothing.
 use mathlib.Core.Path.{_≡_}
 use native.Mathlib.Omega.{arith}
-use lib.IntN.{ℤ, natAbs}
+use lib.IntN.{natAbs}
 use mir.Facts.{toZ-ofZ}
 use Rattle.ground.proofs.Signed.{abs-add}
 use Rattle.distance.proofs.Nearby.{sum-near}

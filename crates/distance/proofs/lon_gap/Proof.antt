@@ -1,5 +1,4 @@
 -- `distance::lon_gap` meets its contract. Assumes nothing.
-use borrow.Author.Needs.{needs}
 use mir.Facts.{toZ-ofZ}
 use Rattle.distance.specs.Distance.{lonGap}
 use Rattle.distance.proofs.lon_gap.Statement.{statement}

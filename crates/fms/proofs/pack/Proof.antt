@@ -1,5 +1,4 @@
 -- `fms::pack` meets its contract. Assumes nothing.
-use mathlib.Core.Path.{_∙_}
 use borrow.Author.Needs.{needs}
 use Rattle.fms.proofs.pack.Statement.{statement}
 use Rattle.fms.proofs.pack.Tie as tie

@@ -1,3 +1,4 @@
+-- `ground::put` meets its contract. Assumes nothing.
 use lib.Seq.{set-out}
 use mathlib.Core.Path.{sym}
 use borrow.Author.Needs.{needs}

@@ -1,3 +1,4 @@
+-- `ground::put_row` meets its contract. Assumes nothing.
 use native.Mathlib.Numerals.{add-one, add-two}
 use mathlib.Core.Path.{refl}
 use borrow.Author.Needs.{needs}

@@ -1,3 +1,4 @@
+-- `ground::put_row_if` meets its contract. Assumes nothing.
 use mathlib.Core.Path.{refl, sym}
 use native.Mathlib.Nat.{add-zero}
 use borrow.Author.Needs.{needs}

@@ -1,10 +1,9 @@
+-- `part73::gap_of` meets its contract. Assumes nothing.
 use native.Mathlib.Omega.{arith}
 use Rattle.part73.specs.Columns.{gap}
 use borrow.Author.Needs.{needs}
 use Rattle.part73.proofs.gap_of.Statement.{statement}
 use Rattle.part73.proofs.gap_of.Tie as tie
-use Rattle.part73.proofs.gap_of.Reads as reads
-use Rattle.part73.proofs.gap_of.Lts as lts
 
 -- src/lib.rt:117:16
 sub-result : tie.Need-sub-result

@@ -1,9 +1,8 @@
+-- `part73::is_class` meets its contract. Assumes nothing.
 use mathlib.Core.Path.{refl}
 use Rattle.part73.specs.Classes.{isClass}
 use Rattle.part73.proofs.is_class.Statement.{statement}
 use Rattle.part73.proofs.is_class.Tie as tie
-use Rattle.part73.proofs.is_class.Reads as reads
-use Rattle.part73.proofs.is_class.Lts as lts
 
 -- src/lib.rt:69:1
 returns : tie.Need-returns

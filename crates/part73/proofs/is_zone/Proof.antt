@@ -1,9 +1,8 @@
+-- `part73::is_zone` meets its contract. Assumes nothing.
 use native.Mathlib.Omega.{arith}
 use Rattle.part73.proofs.Zones.{zone-0, zone-range}
 use Rattle.part73.proofs.is_zone.Statement.{statement}
 use Rattle.part73.proofs.is_zone.Tie as tie
-use Rattle.part73.proofs.is_zone.Reads as reads
-use Rattle.part73.proofs.is_zone.Lts as lts
 
 -- src/lib.rt:79:9
 returns : tie.Need-returns

@@ -1,11 +1,9 @@
+-- `part73::permitted` meets its contract. Assumes nothing.
 use mathlib.Core.Path.{_∙_}
 use Rattle.part73.proofs.Zones.{low-range, zone-2, no-zone}
 use borrow.Author.Needs.{needs}
 use Rattle.part73.proofs.permitted.Statement.{statement}
 use Rattle.part73.proofs.permitted.Tie as tie
-use Rattle.part73.proofs.permitted.Reads as reads
-use Rattle.part73.proofs.permitted.Lts as lts
-use Rattle.part73.proofs.in_zone_two.Reads as in-zone-two-reads
 
 -- src/lib.rt:89:9
 in-zone-two-requires : tie.Need-in-zone-two-requires

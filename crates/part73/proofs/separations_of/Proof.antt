@@ -1,10 +1,9 @@
 -- `part73::separations_of` meets its contract: the places are filled one by one. Assumes nothing.
-use mathlib.Core.Path.{_≡_, refl}
-use Prim.Native.Nat.{ℕ, _-_, _/_, _%_, _<_}
+use mathlib.Core.Path.{refl}
+use Prim.Native.Nat.{_-_, _/_, _%_}
 use native.Mathlib.Omega.{arith}
 use Rattle.ground.proofs.Filling.{Filled, fill-start, fill-turn}
-use Rattle.part73.specs.TableA.{tableA, km}
-use Rattle.part73.specs.Reading.{rows}
+use Rattle.part73.specs.TableA.{km}
 use Rattle.part73.proofs.separations_of.Statement.{statement}
 use Rattle.part73.proofs.separations_of.Tie as tie
 
@@ -14,11 +13,14 @@ Inv-loop class table out₀ k₀ out k = Filled (λ j. km class (j / 4) (j % 4))
 abbrev μ-loop : tie.MeasureT-loop
 μ-loop class table out₀ k₀ out k = 32 - k
 
+table-rows-requires : tie.Need-table-rows-requires Inv-loop μ-loop
+table-rows-requires c κs = tt
+
 loop-holds : tie.Need-loop-holds Inv-loop μ-loop
 loop-holds c = fill-start _ _ 32 refl
 
 row-of-requires : tie.Need-row-of-requires Inv-loop μ-loop
-row-of-requires c κs = (c .before .before .pre, omega arith)
+row-of-requires c κs = (c .before .before .before .pre, omega arith)
 
 mul-out : tie.Need-mul-out Inv-loop μ-loop
 mul-out c = omega (arith, c .row-of .ensures .within)
@@ -45,11 +47,11 @@ loop-less : tie.Need-loop-less Inv-loop μ-loop
 loop-less c = omega arith
 
 loop-again : tie.Need-loop-again Inv-loop μ-loop
-unfolding rows tableA
 loop-again c =
     let r = c .before in
     let at = r .before .before .loop in
-    fill-turn (at .inv) (omega arith) (r .row-of .ensures .at (at .k % 4) (omega arith))
+    let table = r .before .before .before .table-rows .ensures in
+    fill-turn (at .inv) (omega arith) (rw table (r .row-of .ensures .at (at .k % 4) (omega arith)))
 
 returns : tie.Need-returns Inv-loop μ-loop
 returns c = record { at = λ k h. c .before .loop .inv .at k (omega arith) }
@@ -60,6 +62,7 @@ separations-of-spec =
     (tie.spec
     Inv-loop
     μ-loop
+    table-rows-requires
     loop-holds
     row-of-requires
     mul-out

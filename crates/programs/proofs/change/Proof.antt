@@ -1,5 +1,5 @@
 -- `programs::change` meets its contract. Assumes nothing.
-use Rattle.programs.proofs.Rooms.{within}
+use Rattle.telling.proofs.Rooms.{within}
 use borrow.Author.Needs.{needs}
 use Rattle.programs.proofs.change.Statement.{statement}
 use Rattle.programs.proofs.change.Tie as tie

@@ -1,5 +1,5 @@
 -- `programs::check` meets its contract. Assumes nothing.
-use Rattle.programs.proofs.Rooms.{within}
+use Rattle.telling.proofs.Rooms.{within}
 use borrow.Author.Needs.{needs}
 use Rattle.programs.proofs.check.Statement.{statement}
 use Rattle.programs.proofs.check.Tie as tie

@@ -1,5 +1,5 @@
 -- `programs::put_channel` meets its contract. Assumes nothing.
-use Rattle.programs.proofs.Rooms.{within}
+use Rattle.telling.proofs.Rooms.{within}
 use borrow.Author.Needs.{needs}
 use Rattle.programs.proofs.put_channel.Statement.{statement}
 use Rattle.programs.proofs.put_channel.Tie as tie

@@ -1,12 +1,12 @@
 -- `spacing::apart` meets its contract. Assumes nothing.
-use mathlib.Core.Path.{_≡_, sym, _∙_}
-use Prim.Native.Nat.{_+_, _≤_, _<_}
+use mathlib.Core.Path.{_≡_}
+use Prim.Native.Nat.{_+_}
 use native.Mathlib.Omega.{arith}
 use lib.ListN.{getD}
 use denote.Ref.{now}
 use mir.Facts.{toZ-ofZ}
 use borrow.Author.Tests.{leb-true}
-use Rattle.distance.specs.Distance.{latGap, lonGap}
+use Rattle.distance.specs.Distance.{latGap}
 use Rattle.part73.specs.TableA.{km}
 use Rattle.part73.proofs.Facts.{table-a}
 use Rattle.spacing.specs.Limits.{northOf, eastOf}

@@ -1,6 +1,6 @@
 -- `spacing::limits_of` meets its contract: the places are filled one by one. Assumes nothing.
 use mathlib.Core.Path.{_≡_, refl, subst}
-use Prim.Native.Nat.{ℕ, _-_, _<_}
+use Prim.Native.Nat.{_-_}
 use native.Mathlib.Omega.{arith}
 use mir.Facts.{toZ-ofZ}
 use Rattle.ground.proofs.Filling.{Filled, fill-start, fill-turn}

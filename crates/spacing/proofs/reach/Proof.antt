@@ -1,5 +1,6 @@
+-- `spacing::reach` meets its contract. Assumes nothing.
 use mathlib.Core.Path.{_≡_}
-use Prim.Native.Nat.{ℕ, _+_, _*_, _≤_, _<_}
+use Prim.Native.Nat.{ℕ, _+_, _*_, _<_}
 use native.Mathlib.Omega.{arith}
 use lib.ListN.{getD}
 use denote.Ref.{now}
@@ -10,12 +11,19 @@ use Rattle.spacing.proofs.Rule.{near-at, reach-0, reach-1, reach-2, rea
 use borrow.Author.Needs.{needs}
 use Rattle.spacing.proofs.reach.Statement.{statement}
 use Rattle.spacing.proofs.reach.Tie as tie
-use Rattle.spacing.proofs.reach.Reads as reads
-use Rattle.spacing.proofs.reach.Lts as lts
 
-module _ (s : tie.Start) where
-  at : (k c : ℕ) → k ≡ 4 * s .args .theirs + c → c < 4 → getD (now (s .args .near)) k 0 ≡ limitOf (separation (s .args .class) (s .args .theirs) c)
-  at k c e h = near-at (s .pre .0) k (s .args .theirs) c e (s .pre .1 .1) h
+-- the limit in a column against their class
+limit-at : (s : tie.Start) (k c : ℕ) → k ≡ 4 * s .args .theirs + c → c < 4 → getD (now (s .args .near)) k 0 ≡ limitOf (separation (s .args .class) (s .args .theirs) c)
+limit-at s k c e h = near-at (s .pre .0) k (s .args .theirs) c e (s .pre .1 .1) h
+
+limit-0 : (s : tie.Start) → getD (now (s .args .near)) (4 * s .args .theirs) 0 ≡ limitOf (separation (s .args .class) (s .args .theirs) 0)
+limit-0 s = limit-at s _ 0 (omega arith) (omega arith)
+
+limit-1 : (s : tie.Start) → getD (now (s .args .near)) (4 * s .args .theirs + 1) 0 ≡ limitOf (separation (s .args .class) (s .args .theirs) 1)
+limit-1 s = limit-at s _ 1 (omega arith) (omega arith)
+
+limit-2 : (s : tie.Start) → getD (now (s .args .near)) (4 * s .args .theirs + 2) 0 ≡ limitOf (separation (s .args .class) (s .args .theirs) 2)
+limit-2 s = limit-at s _ 2 (omega arith) (omega arith)
 
 mul-k : tie.Need-mul-k
 mul-k c = search needs
@@ -29,11 +37,7 @@ element-copy-out-if1 c = search needs
 returns : tie.Need-returns
 returns c =
     let s = c .before .before in
-    let k = 4 * s .args .theirs in
-    let l0 = at s k 0 (omega arith) (omega arith) in
-    let l1 = at s (k + 1) 1 (omega arith) (omega arith) in
-    let l2 = at s (k + 2) 2 (omega arith) (omega arith) in
-    reach-0 table-a _ _ _ (s .pre .1 .0) (s .pre .1 .1) (omega (arith, c .if1 .taken))
+    reach-0 table-a _ _ _ (s .pre .1 .0) (s .pre .1 .1) (omega (arith, limit-0 s, c .if1 .taken))
 
 add-if2 : tie.Need-add-if2
 add-if2 c = search needs
@@ -47,11 +51,7 @@ element-copy-out-if2 c = search needs
 returns-2 : tie.Need-returns-2
 returns-2 c =
     let s = c .before .before .before .before in
-    let k = 4 * s .args .theirs in
-    let l0 = at s k 0 (omega arith) (omega arith) in
-    let l1 = at s (k + 1) 1 (omega arith) (omega arith) in
-    let l2 = at s (k + 2) 2 (omega arith) (omega arith) in
-    reach-1 table-a _ _ _ (s .pre .1 .0) (s .pre .1 .1) (omega (arith, c .before .before .if1 .left)) (omega (arith, c .if2 .taken))
+    reach-1 table-a _ _ _ (s .pre .1 .0) (s .pre .1 .1) (omega (arith, limit-0 s, c .before .before .if1 .left)) (omega (arith, limit-1 s, c .if2 .taken))
 
 add-if3 : tie.Need-add-if3
 add-if3 c = search needs
@@ -65,20 +65,12 @@ element-copy-out-if3 c = search needs
 returns-3 : tie.Need-returns-3
 returns-3 c =
     let s = c .before .before .before .before .before .before in
-    let k = 4 * s .args .theirs in
-    let l0 = at s k 0 (omega arith) (omega arith) in
-    let l1 = at s (k + 1) 1 (omega arith) (omega arith) in
-    let l2 = at s (k + 2) 2 (omega arith) (omega arith) in
-    reach-2 table-a _ _ _ (s .pre .1 .0) (s .pre .1 .1) (omega (arith, c .before .before .if2 .left)) (omega (arith, c .if3 .taken))
+    reach-2 table-a _ _ _ (s .pre .1 .0) (s .pre .1 .1) (omega (arith, limit-1 s, c .before .before .if2 .left)) (omega (arith, limit-2 s, c .if3 .taken))
 
 returns-4 : tie.Need-returns-4
 returns-4 c =
     let s = c .before .before .before .before .before .before in
-    let k = 4 * s .args .theirs in
-    let l0 = at s k 0 (omega arith) (omega arith) in
-    let l1 = at s (k + 1) 1 (omega arith) (omega arith) in
-    let l2 = at s (k + 2) 2 (omega arith) (omega arith) in
-    reach-4 table-a _ _ _ (s .pre .1 .0) (s .pre .1 .1) (omega (arith, c .if3 .left))
+    reach-4 table-a _ _ _ (s .pre .1 .0) (s .pre .1 .1) (omega (arith, limit-2 s, c .if3 .left))
 
 pub reach-spec : {M : Type 1} → statement M
 reach-spec =

@@ -1,10 +1,10 @@
 -- `spacing::separation_of` meets its contract. Assumes nothing.
-use mathlib.Core.Path.{_≡_, sym, ap, _∙_}
+use mathlib.Core.Path.{sym, ap, _∙_}
 use native.Mathlib.Omega.{arith}
 use borrow.Author.Needs.{needs}
 use Rattle.part73.specs.TableA.{km}
 use Rattle.part73.proofs.Facts.{table-a}
-use Rattle.spacing.specs.Pair.{columnFor, separation}
+use Rattle.spacing.specs.Pair.{separation}
 use Rattle.spacing.proofs.Rule.{for-most}
 use Rattle.spacing.proofs.separation_of.Statement.{statement}
 use Rattle.spacing.proofs.separation_of.Tie as tie

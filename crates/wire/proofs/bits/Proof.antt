@@ -1,6 +1,6 @@
 -- `wire::bits` meets its contract: by the side of 0. Assumes nothing.
 use native.Mathlib.Omega.{arith}
-use Prim.Native.Nat.{_^_, _+_, _-_, _<_}
+use Prim.Native.Nat.{_^_, _-_, _<_}
 use mathlib.Core.Path.{_≡_}
 use lib.IntN.{pos, negsuc, _-ℤ_, natAbs}
 use lib.Signed.{mag, nonNeg}

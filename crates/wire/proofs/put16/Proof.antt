@@ -1,13 +1,11 @@
+-- `wire::put16` meets its contract. Assumes nothing.
 use native.Mathlib.Omega.{arith}
 use native.Mathlib.Nat.{add-zero}
-use mathlib.Core.Path.{_∙_, sym}
 use lib.ListN.{length-set}
 use Rattle.wire.proofs.Width.{puts-put}
 use borrow.Author.Needs.{needs}
 use Rattle.wire.proofs.put16.Statement.{statement}
 use Rattle.wire.proofs.put16.Tie as tie
-use Rattle.wire.proofs.put16.Reads as reads
-use Rattle.wire.proofs.put16.Lts as lts
 
 cast-s : tie.Need-cast-s
 cast-s c = search needs

@@ -1,13 +1,11 @@
+-- `wire::put32` meets its contract. Assumes nothing.
 use native.Mathlib.Omega.{arith}
 use native.Mathlib.Nat.{add-zero}
-use mathlib.Core.Path.{_∙_, sym}
 use lib.ListN.{length-set}
 use Rattle.wire.proofs.Width.{puts-put}
 use borrow.Author.Needs.{needs}
 use Rattle.wire.proofs.put32.Statement.{statement}
 use Rattle.wire.proofs.put32.Tie as tie
-use Rattle.wire.proofs.put32.Reads as reads
-use Rattle.wire.proofs.put32.Lts as lts
 
 cast-s : tie.Need-cast-s
 cast-s c = search needs

@@ -12,8 +12,9 @@ use Rattle.ground.proofs.Writes.{Walking, walk-start, walk-turn, walk-end, walk
 use Rattle.spacing.specs.Pair.{Assignment, assignment}
 use Rattle.survey.specs.Ways.{everyRecord}
 use Rattle.survey.proofs.Records.{few}
-use Rattle.checks.specs.Check.{shortPositions, rowOf, shortRows}
-use Rattle.checks.specs.Walk.{Noted}
+use Rattle.nearby.specs.Positions.{shortPositions}
+use Rattle.checks.specs.Check.{rowOf, shortRows}
+use Rattle.nearby.specs.Walk.{Noted}
 use Rattle.checks.proofs.Listing.{noted-few, position, need-is, rows-are}
 use Rattle.checks.proofs.writing.put_rows.Statement.{statement}
 use Rattle.checks.proofs.writing.put_rows.Tie as tie

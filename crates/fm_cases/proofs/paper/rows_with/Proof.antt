@@ -3,7 +3,6 @@ use Prim.Native.Nat.{_-_}
 use borrow.Author.Needs.{needs}
 use Rattle.fm_cases.proofs.paper.rows_with.Statement.{statement}
 use Rattle.fm_cases.proofs.paper.rows_with.Tie as tie
-use Rattle.std.proofs.num.wrapping_add_u64.Reads as wrapping-add-u64-reads
 
 abbrev Inv-loop : tie.InvT-loop
 Inv-loop rows low high id found₀ place₀ found place = Unit {0}

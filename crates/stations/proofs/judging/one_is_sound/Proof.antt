@@ -1,5 +1,4 @@
 -- `stations::judging::one_is_sound` meets its contract. Assumes nothing.
-use Prim.Native.Nat.{ℕ, _+_, _*_, _/_, _≤_}
 use native.Mathlib.Omega.{arith}
 use borrow.Author.Needs.{needs}
 use Rattle.stations.proofs.Table.{whole-headed}

@@ -1,10 +1,10 @@
 -- `stations::judging::sound_to` meets its contract. Assumes nothing.
-use mathlib.Core.Path.{_≡_, refl, sym, _∙_, ap}
-use Prim.Native.Nat.{ℕ, _+_, _-_, _*_, _/_, _≤_}
+use mathlib.Core.Path.{_≡_, refl, _∙_, ap}
+use Prim.Native.Nat.{_+_, _-_, _*_, _/_, _≤_}
 use native.Mathlib.Omega.{arith}
 use Rattle.ground.proofs.Guards.{not-was}
 use Rattle.stations.specs.Image.{scanned}
-use Rattle.stations.specs.Scanning.{scannedFrom, Ahead, SoundTo}
+use Rattle.stations.specs.Scanning.{scannedFrom, Ahead}
 use Rattle.stations.proofs.Table.{Whole, whole-headed}
 use Rattle.stations.proofs.Versions.{limit-small}
 use Rattle.stations.proofs.Scanning.{ahead-next, sound-start}

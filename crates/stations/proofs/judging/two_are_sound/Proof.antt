@@ -1,9 +1,7 @@
 -- `stations::judging::two_are_sound` meets its contract. Assumes nothing.
-use mathlib.Core.Path.{_≡_, refl, sym, _∙_, ap}
-use Prim.Native.Nat.{ℕ, _+_, _*_, _/_, _≤_}
+use mathlib.Core.Path.{_≡_, refl}
+use Prim.Native.Nat.{_+_, _/_}
 use native.Mathlib.Omega.{arith}
-use borrow.Author.Needs.{needs}
-use Rattle.stations.specs.Scanning.{Ahead, Passed}
 use Rattle.stations.proofs.Table.{whole-headed}
 use Rattle.stations.proofs.Versions.{limit-small}
 use Rattle.stations.proofs.Scanning.{ahead-next, none-passed, two-passed}

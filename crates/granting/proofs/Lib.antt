@@ -1,0 +1,4 @@
+pub mod Cuts
+pub mod Ready
+pub mod Images
+pub mod Plan

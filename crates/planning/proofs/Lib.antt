@@ -1,0 +1,4 @@
+pub mod Single
+pub mod Tallies
+pub mod Rowing
+pub mod Going

@@ -1,3 +1,0 @@
-pub mod Decimals
-pub mod Texts
-pub mod Rooms

@@ -1,0 +1,49 @@
+-- `telling::tell_check` meets its contract. Assumes nothing.
+use native.Mathlib.Omega.{arith}
+use Rattle.telling.proofs.Rooms.{granted}
+use borrow.Author.Needs.{needs}
+use Rattle.telling.proofs.tell_check.Statement.{statement}
+use Rattle.telling.proofs.tell_check.Tie as tie
+
+enum-known-answer : tie.Need-enum-known-answer
+enum-known-answer c = search needs
+
+cast-tell-short : tie.Need-cast-tell-short
+cast-tell-short c = search needs
+
+tell-short-requires : tie.Need-tell-short-requires
+tell-short-requires c κs =
+    let k = granted _ _ _ (c .before .before .before .before .before .before .pre .1 .1) (c .before .before .answer .given .1) in
+    (omega arith, (omega arith, omega arith))
+
+enum-known-answer-2 : tie.Need-enum-known-answer-2
+enum-known-answer-2 c = search needs
+
+tell-refusal-requires : tie.Need-tell-refusal-requires
+tell-refusal-requires c κs = search needs
+
+same-length : tie.Need-same-length
+same-length c = search needs
+
+returns : tie.Need-returns
+returns c = omega (arith, granted _ _ _ (c .before .before .before .before .before .before .before .before .before .pre .1 .1) (c .before .before .before .before .before .answer .given .1))
+
+same-length-2 : tie.Need-same-length-2
+same-length-2 c = search needs
+
+returns-2 : tie.Need-returns-2
+returns-2 c = search needs
+
+pub tell-check-spec : {M : Type 1} → statement M
+tell-check-spec =
+    tie.close
+    (tie.spec
+    enum-known-answer
+    cast-tell-short
+    tell-short-requires
+    enum-known-answer-2
+    tell-refusal-requires
+    same-length
+    returns
+    same-length-2
+    returns-2)
