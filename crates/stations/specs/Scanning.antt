@@ -1,4 +1,4 @@
--- The records of a table judged from a position on, and what a pass over some of them says. Assumes nothing.
+-- Inside: the records of a table judged from a position on, and what a pass over some of them says. Assumes nothing.
 use mathlib.Core.Path.{_≡_}
 use mathlib.Core.Bool.{Bool, true}
 use mathlib.Core.List.{List}
