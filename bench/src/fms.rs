@@ -1,6 +1,6 @@
-//! The proved library: its seven functions for C, and the same on slices.
+//! The proved library: its seven functions for C, asked with slices.
 
-use crate::question::{Answer, Proposal, Question};
+use crate::question::{Answer, Question};
 
 extern "C" {
     fn fms_read(table: *const u8, table_len: usize) -> u64;
@@ -57,149 +57,72 @@ extern "C" {
     ) -> u64;
 }
 
-/// The judgement of a table: the count of its records.
-pub fn read(table: &[u8]) -> Answer {
-    // SAFETY: pointer and length are those of one slice.
-    Answer::of(unsafe { fms_read(table.as_ptr(), table.len()) })
-}
-
-/// The rounded distance between two sites.
-pub fn distance(lat1: i32, lon1: i32, lat2: i32, lon2: i32) -> Answer {
-    // SAFETY: numbers alone are handed over.
-    Answer::of(unsafe { fms_distance(lat1, lon1, lat2, lon2) })
-}
-
-/// The table with one more station.
-pub fn add(table: &[u8], id: u32, channel: u32, proposal: &Proposal, image: &mut [u8]) -> Answer {
-    let Proposal {
-        station_class,
-        zone,
-        lat,
-        lon,
-    } = *proposal;
-    // SAFETY: each pointer and length are those of one slice, and the two slices do not overlap.
-    Answer::of(unsafe {
-        fms_add(
-            table.as_ptr(),
-            table.len(),
-            id,
-            channel,
-            station_class,
-            zone,
-            lat,
-            lon,
-            image.as_mut_ptr(),
-            image.len(),
-        )
-    })
-}
-
-/// The table without a station.
-pub fn withdraw(table: &[u8], id: u32, image: &mut [u8]) -> Answer {
-    // SAFETY: each pointer and length are those of one slice, and the two slices do not overlap.
-    Answer::of(unsafe {
-        fms_withdraw(
-            table.as_ptr(),
-            table.len(),
-            id,
-            image.as_mut_ptr(),
-            image.len(),
-        )
-    })
-}
-
-/// The table with a station on another channel.
-pub fn move_to(table: &[u8], id: u32, channel: u32, image: &mut [u8]) -> Answer {
-    // SAFETY: each pointer and length are those of one slice, and the two slices do not overlap.
-    Answer::of(unsafe {
-        fms_move(
-            table.as_ptr(),
-            table.len(),
-            id,
-            channel,
-            image.as_mut_ptr(),
-            image.len(),
-        )
-    })
-}
-
-/// The stations to which a proposal is short: id, D and R of each.
-pub fn check(table: &[u8], channel: u32, proposal: &Proposal, rows: &mut [u32]) -> Answer {
-    let Proposal {
-        station_class,
-        zone,
-        lat,
-        lon,
-    } = *proposal;
-    // SAFETY: each pointer and length are those of one slice, and the two slices do not overlap.
-    Answer::of(unsafe {
-        fms_check(
-            table.as_ptr(),
-            table.len(),
-            channel,
-            station_class,
-            zone,
-            lat,
-            lon,
-            rows.as_mut_ptr(),
-            rows.len(),
-        )
-    })
-}
-
-/// The clean arrangements: new channel, id moved and its new channel of each.
-pub fn arrange(
-    table: &[u8],
-    first: u32,
-    last: u32,
-    proposal: &Proposal,
-    rows: &mut [u32],
-) -> Answer {
-    let Proposal {
-        station_class,
-        zone,
-        lat,
-        lon,
-    } = *proposal;
-    // SAFETY: each pointer and length are those of one slice, and the two slices do not overlap.
-    Answer::of(unsafe {
-        fms_arrange(
-            table.as_ptr(),
-            table.len(),
-            first,
-            last,
-            station_class,
-            zone,
-            lat,
-            lon,
-            rows.as_mut_ptr(),
-            rows.len(),
-        )
-    })
-}
-
 /// Any question; an image goes to `image`, a list to `rows`.
 pub fn ask(question: &Question, table: &[u8], image: &mut [u8], rows: &mut [u32]) -> Answer {
-    match question {
-        Question::Read => read(table),
-        &Question::Distance {
-            lat1,
-            lon1,
-            lat2,
-            lon2,
-        } => distance(lat1, lon1, lat2, lon2),
-        Question::Add {
-            id,
-            channel,
-            proposal,
-        } => add(table, *id, *channel, proposal, image),
-        Question::Withdraw { id } => withdraw(table, *id, image),
-        Question::Move { id, channel } => move_to(table, *id, *channel, image),
-        Question::Check { channel, proposal } => check(table, *channel, proposal, rows),
-        Question::Arrange {
-            first,
-            last,
-            proposal,
-        } => arrange(table, *first, *last, proposal, rows),
-    }
+    let (table, table_len) = (table.as_ptr(), table.len());
+    let (image, image_len) = (image.as_mut_ptr(), image.len());
+    let (rows, rows_len) = (rows.as_mut_ptr(), rows.len());
+    // SAFETY: each pointer goes with the length of its own slice, and no two slices overlap.
+    let word = unsafe {
+        match *question {
+            Question::Read => fms_read(table, table_len),
+            Question::Distance {
+                lat1,
+                lon1,
+                lat2,
+                lon2,
+            } => fms_distance(lat1, lon1, lat2, lon2),
+            Question::Withdraw { id } => fms_withdraw(table, table_len, id, image, image_len),
+            Question::Move { id, channel } => {
+                fms_move(table, table_len, id, channel, image, image_len)
+            }
+            Question::Add {
+                id,
+                channel,
+                proposal: p,
+            } => fms_add(
+                table,
+                table_len,
+                id,
+                channel,
+                p.station_class,
+                p.zone,
+                p.lat,
+                p.lon,
+                image,
+                image_len,
+            ),
+            Question::Check {
+                channel,
+                proposal: p,
+            } => fms_check(
+                table,
+                table_len,
+                channel,
+                p.station_class,
+                p.zone,
+                p.lat,
+                p.lon,
+                rows,
+                rows_len,
+            ),
+            Question::Arrange {
+                first,
+                last,
+                proposal: p,
+            } => fms_arrange(
+                table,
+                table_len,
+                first,
+                last,
+                p.station_class,
+                p.zone,
+                p.lat,
+                p.lon,
+                rows,
+                rows_len,
+            ),
+        }
+    };
+    Answer::of(word)
 }

@@ -160,6 +160,11 @@ impl Scene {
 /// A scene of up to `most` stations.
 pub fn scene(chance: &mut Chance, manner: Manner, most: usize) -> Scene {
     let count = chance.from(0, most as i64) as usize;
+    scene_of(chance, manner, count)
+}
+
+/// A scene of so many stations; of a few where they are to be lone.
+pub fn scene_of(chance: &mut Chance, manner: Manner, count: usize) -> Scene {
     let lat = chance.from(-270_000, 270_000);
     let lon = chance.from(-648_000, 648_000);
     match manner {
@@ -212,26 +217,25 @@ pub fn scene(chance: &mut Chance, manner: Manner, most: usize) -> Scene {
             Scene { stations, area }
         }
         Manner::Limits => {
-            let mut stations = spread(chance, count, Area::around(lat, lon, 0), 245, 255);
-            let (lat, lon) = (lat as i32, lon as i32);
+            let lat = if chance.once_in(3) { 0 } else { lat };
+            let area = Area::around(lat, lon, 0);
+            let mut stations = spread(chance, count, area, 245, 255);
+            let (p, q) = crate::naive::degrees(i128::from(lat.unsigned_abs()) * 2);
             for station in &mut stations {
                 let column = chance.from(0, 3) as usize;
                 let class = chance.from(0, 7) as u32;
-                let decimetres =
-                    10_000 * i64::from(crate::naive::km(class, station.class, column)) - 5_000;
-                let (_, q) = crate::naive::degrees(i128::from(lat.unsigned_abs()) * 2);
-                let seconds = (decimetres * 3_600_000 / q as i64 + chance.from(-1, 2)) as i32;
-                let lon = if lon > 0 {
-                    lon - seconds
+                let km = i64::from(crate::naive::km(class, station.class, column));
+                let (site, degree, end) = if chance.once_in(3) {
+                    (&mut station.lat, p, 270_000)
                 } else {
-                    lon + seconds
+                    (&mut station.lon, q, 648_000)
                 };
-                station.lon = lon.clamp(-648_000, 648_000);
+                let seconds =
+                    (10_000 * km - 5_000) * 3_600_000 / degree as i64 + chance.from(-1, 2);
+                let seconds = if chance.once_in(2) { seconds } else { -seconds } as i32;
+                *site = (*site + seconds).clamp(-end, end);
             }
-            Scene {
-                stations,
-                area: Area::around(i64::from(lat), i64::from(lon), 0),
-            }
+            Scene { stations, area }
         }
     }
 }

@@ -400,106 +400,59 @@ fn arranged(table: &[u8], first: u32, last: u32, proposal: &Proposal) -> Result<
     Ok(rows)
 }
 
-/// Writes what is granted, if it fits.
-fn delivered<T: Copy>(outcome: Result<Vec<T>, Refusal>, buffer: &mut [T]) -> Answer {
-    match outcome {
-        Err(Refusal { number, extra }) => Answer::Refused {
-            number,
-            extra: extra as u32,
-        },
-        Ok(content) if buffer.len() < content.len() => Answer::Refused {
-            number: 22,
-            extra: content.len() as u32,
-        },
-        Ok(content) => {
-            buffer[..content.len()].copy_from_slice(&content);
-            Answer::Granted(content.len() as u32)
-        }
-    }
-}
-
-/// The judgement of a table: the count of its records.
-pub fn read(table: &[u8]) -> Answer {
-    match judge(table) {
-        Ok(stations) => Answer::Granted(stations.len() as u32),
-        Err(Refusal { number, extra }) => Answer::Refused {
-            number,
-            extra: extra as u32,
-        },
-    }
-}
-
 /// The rounded distance between two sites, up to 475 km.
-pub fn distance(lat1: i32, lon1: i32, lat2: i32, lon2: i32) -> Answer {
+fn distant(lat1: i32, lon1: i32, lat2: i32, lon2: i32) -> Result<u32, Refusal> {
     if !site_in_range(lat1, lon1) || !site_in_range(lat2, lon2) {
-        return Answer::Refused {
-            number: 17,
-            extra: 0,
-        };
+        return refuse(17, 0);
     }
     let d = rounded(squared(lat1, lon1, lat2, lon2));
     if d > 475 {
-        return Answer::Refused {
-            number: 24,
-            extra: 0,
-        };
+        return refuse(24, 0);
     }
-    Answer::Granted(d)
+    Ok(d)
 }
 
-/// The table with one more station.
-pub fn add(table: &[u8], id: u32, channel: u32, proposal: &Proposal, image: &mut [u8]) -> Answer {
-    delivered(added(table, id, channel, proposal), image)
-}
-
-/// The table without a station.
-pub fn withdraw(table: &[u8], id: u32, image: &mut [u8]) -> Answer {
-    delivered(withdrawn(table, id), image)
-}
-
-/// The table with a station on another channel.
-pub fn move_to(table: &[u8], id: u32, channel: u32, image: &mut [u8]) -> Answer {
-    delivered(moved(table, id, channel), image)
-}
-
-/// The stations to which a proposal is short: id, D and R of each.
-pub fn check(table: &[u8], channel: u32, proposal: &Proposal, rows: &mut [u32]) -> Answer {
-    delivered(checked(table, channel, proposal), rows)
-}
-
-/// The clean arrangements: new channel, id moved and its new channel of each.
-pub fn arrange(
-    table: &[u8],
-    first: u32,
-    last: u32,
-    proposal: &Proposal,
-    rows: &mut [u32],
-) -> Answer {
-    delivered(arranged(table, first, last, proposal), rows)
+/// What is granted is written, if it fits, and its length told.
+fn delivered<T: Copy>(outcome: Result<Vec<T>, Refusal>, buffer: &mut [T]) -> Result<u32, Refusal> {
+    let content = outcome?;
+    if buffer.len() < content.len() {
+        return refuse(22, content.len());
+    }
+    buffer[..content.len()].copy_from_slice(&content);
+    Ok(content.len() as u32)
 }
 
 /// Any question; an image goes to `image`, a list to `rows`.
 pub fn ask(question: &Question, table: &[u8], image: &mut [u8], rows: &mut [u32]) -> Answer {
-    match question {
-        Question::Read => read(table),
-        &Question::Distance {
+    let outcome = match question {
+        Question::Read => judge(table).map(|stations| stations.len() as u32),
+        Question::Distance {
             lat1,
             lon1,
             lat2,
             lon2,
-        } => distance(lat1, lon1, lat2, lon2),
+        } => distant(*lat1, *lon1, *lat2, *lon2),
         Question::Add {
             id,
             channel,
             proposal,
-        } => add(table, *id, *channel, proposal, image),
-        Question::Withdraw { id } => withdraw(table, *id, image),
-        Question::Move { id, channel } => move_to(table, *id, *channel, image),
-        Question::Check { channel, proposal } => check(table, *channel, proposal, rows),
+        } => delivered(added(table, *id, *channel, proposal), image),
+        Question::Withdraw { id } => delivered(withdrawn(table, *id), image),
+        Question::Move { id, channel } => delivered(moved(table, *id, *channel), image),
+        Question::Check { channel, proposal } => {
+            delivered(checked(table, *channel, proposal), rows)
+        }
         Question::Arrange {
             first,
             last,
             proposal,
-        } => arrange(table, *first, *last, proposal, rows),
+        } => delivered(arranged(table, *first, *last, proposal), rows),
+    };
+    match outcome {
+        Ok(count) => Answer::Granted(count),
+        Err(Refusal { number, extra }) => Answer::Refused {
+            number,
+            extra: extra as u32,
+        },
     }
 }

@@ -42,6 +42,9 @@ pub enum Question {
     },
 }
 
+/// Who answers: a question about a table, with lent room for an image and for a list.
+pub type Ask = fn(&Question, &[u8], &mut [u8], &mut [u32]) -> Answer;
+
 /// A count or a distance, or a refusal with its extra number.
 #[derive(Clone, Copy, Debug, PartialEq, Eq)]
 pub enum Answer {

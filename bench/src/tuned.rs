@@ -1,10 +1,14 @@
-//! Read, Check and Arrange tuned by hand for few instructions, in safe Rust; answers are packed words. `EAST` says whether
-//! Arrange puts a record aside by its longitude alone too, as the library does, or by its latitude alone.
+//! The seven questions tuned by hand for few instructions, in safe Rust. Far records are passed over by one subtraction and one
+//! comparison: by their latitude alone, or, with `BOX`, by a box of latitudes and longitudes around the site. Records are judged
+//! and passed over one a turn, and with `BOX` four.
 
 use crate::question::{Answer, Proposal, Question};
 
 const HEADER: usize = 8;
 const RECORD: usize = 16;
+
+/// The sixteen bytes of a station.
+type Record = [u8; RECORD];
 
 /// Table A of §73.207(b)(1), one row of four for each pair of classes, in the document's order.
 const TABLE_A: [[u16; 4]; 36] = [
@@ -54,30 +58,36 @@ struct Limit {
     km: u32,
 }
 
-/// The limits of one class: by the other class, then by column.
+impl Limit {
+    const fn of(km: u32) -> Limit {
+        let decimetres = decimetres(km);
+        Limit {
+            squared: decimetres * decimetres,
+            // A degree of latitude is nowhere shorter than 1,105,648,400 units of P.
+            apart: (decimetres * 3_600_000).div_ceil(1_105_648_400) as u32,
+            km,
+        }
+    }
+}
+
+/// The least distance that rounds to a separation.
+const fn decimetres(km: u32) -> u64 {
+    10_000 * km as u64 - 5_000
+}
+
+/// The limits of one class: by the other class, then by column. Class C, the last, reaches farthest.
 type Limits = [[Limit; 4]; 8];
 
 /// The limits of every class.
 static LIMITS: [Limits; 8] = limits();
 
 const fn limits() -> [Limits; 8] {
-    let mut table = [[[Limit {
-        squared: 0,
-        apart: 0,
-        km: 0,
-    }; 4]; 8]; 8];
+    let mut table = [[[Limit::of(1); 4]; 8]; 8];
     let (mut row, mut low, mut high) = (0, 0, 0);
     while row < 36 {
         let mut column = 0;
         while column < 4 {
-            let km = TABLE_A[row][column] as u32;
-            let decimetres = 10_000 * km as u64 - 5_000;
-            let limit = Limit {
-                km,
-                squared: decimetres * decimetres,
-                // A degree of latitude is nowhere shorter than 1,105,648,400 units of P.
-                apart: (decimetres * 3_600_000).div_ceil(1_105_648_400) as u32,
-            };
+            let limit = Limit::of(TABLE_A[row][column] as u32);
             table[low][high][column] = limit;
             table[high][low][column] = limit;
             column += 1;
@@ -96,8 +106,11 @@ const fn limits() -> [Limits; 8] {
 /// Channels 221 to 300 as bits 0 to 79.
 type Channels = u128;
 
-/// A table by channel: the low seven bits tell 201 to 300 apart.
-type ByChannel<T> = [T; 128];
+/// All of them.
+const EVERY: Channels = (1 << 80) - 1;
+
+/// A table by channel: the low byte tells 201 to 300 apart.
+type ByChannel<T> = [T; 256];
 
 /// The channels that a station blocks: co-channel alone, with the first neighbours, with the second and third.
 static BANDS: [ByChannel<Channels>; 3] = [within(0, 0), within(0, 1), within(0, 3)];
@@ -106,18 +119,18 @@ static BANDS: [ByChannel<Channels>; 3] = [within(0, 0), within(0, 1), within(0, 
 static FAR: ByChannel<Channels> = within(53, 54);
 
 /// No channel at all.
-static NO_CHANNELS: ByChannel<Channels> = [0; 128];
+static NO_CHANNELS: ByChannel<Channels> = [0; 256];
 
 /// For each channel, those of 221 to 300 whose difference to it lies from `least` to `most`.
 const fn within(least: u32, most: u32) -> ByChannel<Channels> {
-    let mut table = [0; 128];
+    let mut table = [0; 256];
     let mut channel: u32 = 201;
     while channel <= 300 {
         let mut other = 221;
         while other <= 300 {
             let difference = channel.abs_diff(other);
             if least <= difference && difference <= most {
-                table[channel as usize % 128] |= 1 << (other - 221);
+                table[channel as usize % 256] |= 1 << (other - 221);
             }
             other += 1;
         }
@@ -127,53 +140,47 @@ const fn within(least: u32, most: u32) -> ByChannel<Channels> {
 }
 
 /// The channel of a record as an index by channel.
-fn by_channel(record: &[u8; RECORD]) -> usize {
-    usize::from(record[5] & 127)
+fn by_channel(record: &Record) -> usize {
+    usize::from(record[5])
 }
 
-fn be32(record: &[u8; RECORD], at: usize) -> u32 {
+fn be32(record: &Record, at: usize) -> u32 {
     u32::from_be_bytes([record[at], record[at + 1], record[at + 2], record[at + 3]])
 }
 
-fn id(record: &[u8; RECORD]) -> u32 {
+fn id(record: &Record) -> u32 {
     be32(record, 0)
 }
 
-fn class(record: &[u8; RECORD]) -> usize {
+fn class(record: &Record) -> usize {
     usize::from(record[6] & 7)
 }
 
-fn lat(record: &[u8; RECORD]) -> i32 {
+fn lat(record: &Record) -> i32 {
     be32(record, 8) as i32
 }
 
-fn lon(record: &[u8; RECORD]) -> i32 {
+fn lon(record: &Record) -> i32 {
     be32(record, 12) as i32
 }
 
 /// Not fixed, and above channel 220.
-fn movable(record: &[u8; RECORD]) -> bool {
+fn movable(record: &Record) -> bool {
     record[7] == 0 && u16::from_be_bytes([record[4], record[5]]) > 220
 }
 
-/// The sixteen bytes of each record.
-fn each(records: &[u8]) -> impl Iterator<Item = &[u8; RECORD]> {
-    records
-        .chunks_exact(RECORD)
-        .map(|record| record.try_into().expect("sixteen bytes"))
-}
+/// What is granted, or the packed word of a refusal.
+type Outcome<T> = Result<T, u64>;
 
 fn refusal(number: u32, extra: usize) -> u64 {
     u64::from(number) << 32 | extra as u64
 }
 
 /// The records of a table, or its refusal.
-#[inline(always)]
-fn judge(table: &[u8]) -> Result<&[u8], u64> {
-    if table.len() < HEADER {
+fn judge<const BOX: bool>(table: &[u8]) -> Outcome<&[Record]> {
+    let Some((header, records)) = table.split_first_chunk::<HEADER>() else {
         return Err(refusal(1, 0));
-    }
-    let (header, records) = table.split_at(HEADER);
+    };
     if header[..3] != *b"FMS" {
         return Err(refusal(2, 0));
     }
@@ -190,29 +197,56 @@ fn judge(table: &[u8]) -> Result<&[u8], u64> {
     if records.len() != RECORD * count {
         return Err(refusal(6, 0));
     }
+    let (records, _) = records.as_chunks();
+    let sound = if BOX {
+        all_sound(records)
+    } else {
+        sound(records, &mut 0)
+    };
+    if sound {
+        Ok(records)
+    } else {
+        Err(first_fault(records))
+    }
+}
+
+/// Whether no record has a fault, four in a turn.
+#[inline(always)]
+fn all_sound(records: &[Record]) -> bool {
+    let (turns, last) = records.as_chunks::<4>();
     let mut before = 0;
-    for record in each(records) {
-        let id = id(record);
-        let fields = be32(record, 4);
-        if id <= before
+    for turn in turns {
+        if !sound(turn, &mut before) {
+            return false;
+        }
+    }
+    sound(last, &mut before)
+}
+
+/// Whether no record of some has a fault; `before` is the last id before them, and then of them.
+#[inline(always)]
+fn sound(records: &[Record], before: &mut u32) -> bool {
+    for record in records {
+        let (id, fields) = (id(record), be32(record, 4));
+        if id <= *before
             || fields.wrapping_sub(201 << 16) >= 100 << 16
             || fields & 0xF8FE != 0
             || lat(record).wrapping_add(270_000) as u32 > 540_000
             || lon(record).wrapping_add(648_000) as u32 > 1_296_000
         {
-            return Err(first_fault(records));
+            return false;
         }
-        before = id;
+        *before = id;
     }
-    Ok(records)
+    true
 }
 
 /// The refusal of records of which one is not right.
 #[cold]
 #[inline(never)]
-fn first_fault(records: &[u8]) -> u64 {
+fn first_fault(records: &[Record]) -> u64 {
     let mut before = 0;
-    for (position, record) in each(records).enumerate() {
+    for (position, record) in records.iter().enumerate() {
         let number = fault(record, before);
         if number != 0 {
             return refusal(number, position);
@@ -223,7 +257,7 @@ fn first_fault(records: &[u8]) -> u64 {
 }
 
 /// What is wrong with a record after one with the id `before`: 7 to 12, or 0.
-fn fault(record: &[u8; RECORD], before: u32) -> u32 {
+fn fault(record: &Record, before: u32) -> u32 {
     if id(record) <= before {
         7
     } else if !(201..=300).contains(&u16::from_be_bytes([record[4], record[5]])) {
@@ -242,7 +276,7 @@ fn fault(record: &[u8; RECORD], before: u32) -> u32 {
 }
 
 /// The checks 13 to 17 of what is asked.
-fn judge_proposal(first: u32, last: u32, proposal: &Proposal) -> Result<(), u64> {
+fn judge_proposal(first: u32, last: u32, proposal: &Proposal) -> Outcome<()> {
     if first < 221 || last > 300 || first > last {
         return Err(refusal(13, 0));
     }
@@ -260,7 +294,11 @@ fn judge_proposal(first: u32, last: u32, proposal: &Proposal) -> Result<(), u64>
     if permitted >> proposal.station_class & 1 == 0 {
         return Err(refusal(16, 0));
     }
-    if proposal.lat.unsigned_abs() > 270_000 || proposal.lon.unsigned_abs() > 648_000 {
+    judge_site(proposal.lat, proposal.lon)
+}
+
+fn judge_site(lat: i32, lon: i32) -> Outcome<()> {
+    if lat.unsigned_abs() > 270_000 || lon.unsigned_abs() > 648_000 {
         return Err(refusal(17, 0));
     }
     Ok(())
@@ -273,11 +311,15 @@ fn scaled(a: i64, b: i64) -> i64 {
     a * b / E as i64
 }
 
+/// A mean latitude of half-seconds as x of the paper.
+fn angle(half_seconds: u64) -> u64 {
+    half_seconds * 2_424_068_405_548 / E
+}
+
 /// S of two sites in range, in square decimetres.
 #[inline(always)]
 fn squared(lat1: i32, lon1: i32, lat2: i32, lon2: i32) -> u64 {
-    let h = u64::from((lat1 + lat2).unsigned_abs());
-    let x = h * 2_424_068_405_548 / E;
+    let x = angle(u64::from((lat1 + lat2).unsigned_abs()));
     // From t7 on the terms are 0 at every mean latitude in range.
     let t1 = x * x / (2 * E);
     let t2 = t1 * x / E * x / (12 * E);
@@ -297,153 +339,137 @@ fn squared(lat1: i32, lon1: i32, lat2: i32, lon2: i32) -> u64 {
     ns * ns + ew * ew
 }
 
+/// A length that no degree of longitude falls below, at the mean of a latitude and any at most 9,500 seconds from it.
+fn least_scale(lat: i32) -> u64 {
+    let x = angle((2 * u64::from(lat.unsigned_abs()) + 9_500).min(540_000));
+    let least = E - x * x / E / 2;
+    1_114_151_300 * least / E - 2_842_500
+}
+
 /// The whole km nearest to the root of S; a half rounds up.
 fn rounded(s: u64) -> u32 {
     ((s.isqrt() + 5_000) / 10_000) as u32
 }
 
-/// The judgement of a table: the count of its records.
-#[inline(never)]
-pub fn read(table: &[u8]) -> u64 {
-    match judge(table) {
-        Ok(records) => (records.len() / RECORD) as u64,
-        Err(refusal) => refusal,
-    }
-}
-
-/// No requirement at this channel difference.
-const NONE: u8 = 4;
-
-/// The column of each channel against one from 221 on.
-fn columns(channel: u32) -> ByChannel<u8> {
-    let mut table = [NONE; 128];
-    for (column, least, most) in [(3, 53, 54), (2, 2, 3), (1, 1, 1), (0, 0, 0)] {
-        for difference in least..=most {
-            for other in [channel - difference, channel + difference] {
-                if (201..=300).contains(&other) {
-                    table[other as usize % 128] = column;
-                }
-            }
-        }
-    }
-    table
-}
-
-/// The stations to which a proposal is short: id, D and R of each.
-#[inline(never)]
-pub fn check(table: &[u8], channel: u32, proposal: &Proposal, rows: &mut [u32]) -> u64 {
-    match checked(table, channel, proposal) {
-        Ok(found) => {
-            let need = 3 * found.len();
-            if rows.len() < need {
-                return refusal(22, need);
-            }
-            for (place, row) in rows.chunks_exact_mut(3).zip(&found) {
-                place.copy_from_slice(row);
-            }
-            need as u64
-        }
-        Err(refusal) => refusal,
-    }
-}
-
-/// The rows of Check, or the refusal before 22.
+/// The one walk over a table: the records that are not passed over, with their positions, in turn.
 #[inline(always)]
-fn checked(table: &[u8], channel: u32, proposal: &Proposal) -> Result<Vec<[u32; 3]>, u64> {
-    let records = judge(table)?;
-    judge_proposal(channel, channel, proposal)?;
-    let columns = columns(channel);
-    let limits = &LIMITS[proposal.station_class as usize];
-    let mut found = Vec::new();
-    for record in each(records) {
-        let column = columns[by_channel(record)];
-        if column == NONE {
-            continue;
-        }
-        let column = usize::from(column & 3);
-        let limit = limits[class(record)][column];
-        if proposal.lat.abs_diff(lat(record)) >= limit.apart {
-            continue;
-        }
-        let s = squared(proposal.lat, proposal.lon, lat(record), lon(record));
-        if s < limit.squared {
-            found.push([id(record), rounded(s), limit.km]);
-        }
-    }
-    Ok(found)
+fn walk<'a, const BOX: bool>(
+    records: &'a [Record],
+    passed: impl Fn(&Record) -> bool + 'a,
+) -> impl Iterator<Item = (usize, &'a Record)> + 'a {
+    let mut from = 0;
+    std::iter::from_fn(move || {
+        let position = if BOX {
+            next::<4>(records, from, &passed)
+        } else {
+            next::<1>(records, from, &passed)
+        };
+        from = position + 1;
+        Some((position, records.get(position)?))
+    })
 }
 
-/// How far two stations reach along the channels: the band around a channel, and the channels 53 and 54 away.
+/// The first position from a place on whose record is not passed over, so many in a turn; the count where there is none.
+#[inline(always)]
+fn next<const TURN: usize>(
+    records: &[Record],
+    from: usize,
+    passed: impl Fn(&Record) -> bool,
+) -> usize {
+    let (turns, last) = records.get(from..).unwrap_or_default().as_chunks::<TURN>();
+    let mut position = from;
+    for turn in turns {
+        if let Some(place) = turn.iter().position(|record| !passed(record)) {
+            return position + place;
+        }
+        position += TURN;
+    }
+    position + last.iter().take_while(|record| passed(record)).count()
+}
+
+/// A class at a site.
 #[derive(Clone, Copy)]
-struct Reach {
-    band: &'static ByChannel<Channels>,
-    far: &'static ByChannel<Channels>,
+struct Place {
+    class: usize,
+    lat: i32,
+    lon: i32,
 }
 
-impl Reach {
-    /// The channels on which one of the two is short to the other on a channel.
-    fn around(self, channel: usize) -> Channels {
-        self.band[channel] | self.far[channel]
+impl Place {
+    /// Where a station is proposed.
+    fn of(proposal: &Proposal) -> Place {
+        Place {
+            class: proposal.station_class as usize & 7,
+            lat: proposal.lat,
+            lon: proposal.lon,
+        }
+    }
+
+    /// Where a record stands.
+    fn at(record: &Record) -> Place {
+        Place {
+            class: class(record),
+            lat: lat(record),
+            lon: lon(record),
+        }
     }
 }
 
-/// A length that no degree of longitude falls below, at the mean of a latitude and any at most 9,500 seconds from it.
-fn least_scale(lat: i32) -> u64 {
-    let half_seconds = (2 * u64::from(lat.unsigned_abs()) + 9_500).min(540_000);
-    let x = half_seconds * 2_424_068_405_548 / E;
-    let least = E - x * x / E / 2;
-    1_114_151_300 * least / E - 2_842_500
-}
-
-/// A class at a site, from which the records are looked at.
-struct Lookout<const EAST: bool> {
+/// A place from which records are looked at.
+struct Lookout<const BOX: bool> {
     limits: &'static Limits,
     lat: i32,
     lon: i32,
-    /// The latitudes within which a station of the class that reaches farthest can be short: the first, and how many more.
-    south: i32,
-    span: u32,
     /// The seconds of longitude that alone are enough, for each class.
     east: [u32; 8],
+    /// The box outside of which nobody is short: its southern and western edge, its height and width.
+    south: i32,
+    west: i32,
+    height: u32,
+    width: u32,
 }
 
-impl<const EAST: bool> Lookout<EAST> {
-    fn new(class: usize, lat: i32, lon: i32) -> Self {
-        let limits = &LIMITS[class & 7];
-        let widest = limits[7][0].apart - 1;
-        let mut east = [0; 8];
-        if EAST {
-            let scale = least_scale(lat);
-            for (place, limit) in east.iter_mut().zip(limits) {
-                let decimetres = 10_000 * u64::from(limit[0].km) - 5_000;
-                *place = (decimetres * 3_600_000 / scale + 1) as u32;
-            }
-        }
+impl<const BOX: bool> Lookout<BOX> {
+    fn new(Place { class, lat, lon }: Place) -> Self {
+        let limits = &LIMITS[class];
+        let scale = least_scale(lat);
+        let east = limits.map(|limit| (decimetres(limit[0].km) * 3_600_000 / scale + 1) as u32);
+        let (up, across) = (limits[7][0].apart - 1, east[7] - 1);
         Lookout {
             limits,
             lat,
             lon,
-            south: lat - widest as i32,
-            span: 2 * widest,
             east,
+            south: lat - up as i32,
+            west: lon - across as i32,
+            height: 2 * up,
+            width: 2 * across,
         }
+    }
+
+    /// Whether a record is spaced in a column by its latitude alone or its longitude alone: by the limits of the class that
+    /// reaches farthest, then by those of its own.
+    #[inline(always)]
+    fn spaced(&self, record: &Record, column: usize) -> bool {
+        lat(record).wrapping_sub(self.south) as u32 > self.height
+            || BOX && lon(record).wrapping_sub(self.west) as u32 > self.width
+            || self.lat.abs_diff(lat(record)) >= self.limits[class(record)][column].apart
+            || self.lon.abs_diff(lon(record)) >= self.east[class(record)]
+    }
+
+    /// The limits of a record's class, and S.
+    #[inline(always)]
+    fn held(&self, record: &Record) -> (&'static [Limit; 4], u64) {
+        (
+            &self.limits[class(record)],
+            squared(self.lat, self.lon, lat(record), lon(record)),
+        )
     }
 
     /// How far a station here and a record reach; nothing where they are spaced on every channel.
     #[inline(always)]
-    fn reach(&self, record: &[u8; RECORD]) -> Option<Reach> {
-        let lat = lat(record);
-        if lat.wrapping_sub(self.south) as u32 > self.span {
-            return None;
-        }
-        let limits = &self.limits[class(record)];
-        if self.lat.abs_diff(lat) >= limits[0].apart {
-            return None;
-        }
-        if EAST && self.lon.abs_diff(lon(record)) >= self.east[class(record)] {
-            return None;
-        }
-        let s = squared(self.lat, self.lon, lat, lon(record));
+    fn reach(&self, record: &Record) -> Option<Reach> {
+        let (limits, s) = self.held(record);
         if s >= limits[0].squared {
             return None;
         }
@@ -462,16 +488,208 @@ impl<const EAST: bool> Lookout<EAST> {
         Some(Reach { band, far })
     }
 
-    /// The channels of 221 to 300 that any of these records blocks.
-    #[inline(always)]
-    fn blocked(&self, records: &[u8]) -> Channels {
+    /// The channels of 221 to 300 that the others block for a station here that stands at a position of the table.
+    #[inline(never)]
+    fn blocked(&self, records: &[Record], own: usize) -> Channels {
         let mut blocked = 0;
-        for record in each(records) {
+        for (position, record) in walk::<BOX>(records, |record| self.spaced(record, 0)) {
+            if position == own {
+                continue;
+            }
             if let Some(reach) = self.reach(record) {
                 blocked |= reach.around(by_channel(record));
             }
         }
         blocked
+    }
+}
+
+/// No requirement at this channel difference.
+const NONE: u8 = 4;
+
+/// The column of each channel against one from 221 on.
+fn columns(channel: u32) -> ByChannel<u8> {
+    let mut table = [NONE; 256];
+    for (column, least, most) in [(3, 53, 54), (2, 2, 3), (1, 1, 1), (0, 0, 0)] {
+        for difference in least..=most {
+            for other in [channel - difference, channel + difference] {
+                if (201..=300).contains(&other) {
+                    table[other as usize % 256] = column;
+                }
+            }
+        }
+    }
+    table
+}
+
+/// A station on a channel, of a class at a site, to which records are held.
+struct Held<const BOX: bool> {
+    columns: ByChannel<u8>,
+    lookout: Lookout<BOX>,
+}
+
+impl<const BOX: bool> Held<BOX> {
+    fn new(channel: u32, place: Place) -> Self {
+        Held {
+            columns: columns(channel),
+            lookout: Lookout::new(place),
+        }
+    }
+
+    /// The records that are short, in turn: position, record, S and separation.
+    #[inline(always)]
+    fn short<'a>(
+        &'a self,
+        records: &'a [Record],
+    ) -> impl Iterator<Item = (usize, &'a Record, u64, u32)> + 'a {
+        let passed = |record: &Record| {
+            let column = self.columns[by_channel(record)];
+            column == NONE || self.lookout.spaced(record, usize::from(column & 3))
+        };
+        walk::<BOX>(records, passed).filter_map(|(position, record)| {
+            let column = usize::from(self.columns[by_channel(record)] & 3);
+            let (limits, s) = self.lookout.held(record);
+            let limit = &limits[column];
+            (s < limit.squared).then_some((position, record, s, limit.km))
+        })
+    }
+}
+
+/// The rounded distance between two sites.
+fn distance(lat1: i32, lon1: i32, lat2: i32, lon2: i32) -> Outcome<usize> {
+    judge_site(lat1, lon1)?;
+    judge_site(lat2, lon2)?;
+    match rounded(squared(lat1, lon1, lat2, lon2)) {
+        km @ 0..=475 => Ok(km as usize),
+        _ => Err(refusal(24, 0)),
+    }
+}
+
+/// The stations to which a proposal is short: id, D and R of each.
+fn check<const BOX: bool>(
+    table: &[u8],
+    channel: u32,
+    proposal: &Proposal,
+    rows: &mut [u32],
+) -> Outcome<usize> {
+    let records = judge::<BOX>(table)?;
+    judge_proposal(channel, channel, proposal)?;
+    let held = Held::<BOX>::new(channel, Place::of(proposal));
+    let mut found = Vec::with_capacity(32);
+    for (_, record, s, km) in held.short(records) {
+        found.push([id(record), rounded(s), km]);
+    }
+    let found = found.as_flattened();
+    if rows.len() < found.len() {
+        return Err(refusal(22, found.len()));
+    }
+    rows[..found.len()].copy_from_slice(found);
+    Ok(found.len())
+}
+
+/// The position of the record with an id, or the one where it would stand.
+fn sought(records: &[Record], wanted: u32) -> Result<usize, usize> {
+    records.binary_search_by_key(&wanted, id)
+}
+
+/// The image of records in three parts.
+fn put_image(parts: [&[Record]; 3], image: &mut [u8]) -> Outcome<usize> {
+    let count = parts[0].len() + parts[1].len() + parts[2].len();
+    let need = HEADER + RECORD * count;
+    if image.len() < need {
+        return Err(refusal(22, need));
+    }
+    let [high, low] = (count as u16).to_be_bytes();
+    image[..HEADER].copy_from_slice(&[b'F', b'M', b'S', 0, 1, 0, high, low]);
+    let mut at = HEADER;
+    for part in parts {
+        let bytes = part.as_flattened();
+        image[at..at + bytes.len()].copy_from_slice(bytes);
+        at += bytes.len();
+    }
+    Ok(need)
+}
+
+/// The table with one more station.
+fn add<const BOX: bool>(
+    table: &[u8],
+    new: u32,
+    channel: u32,
+    proposal: &Proposal,
+    image: &mut [u8],
+) -> Outcome<usize> {
+    let records = judge::<BOX>(table)?;
+    judge_proposal(channel, channel, proposal)?;
+    if new == 0 {
+        return Err(refusal(18, 0));
+    }
+    let place = match sought(records, new) {
+        Ok(position) => return Err(refusal(19, position)),
+        Err(place) => place,
+    };
+    let held = Held::<BOX>::new(channel, Place::of(proposal));
+    if let Some((position, ..)) = held.short(records).next() {
+        return Err(refusal(20, position));
+    }
+    if records.len() == 2_000 {
+        return Err(refusal(21, 0));
+    }
+    let mut record = [0; RECORD];
+    record[..4].copy_from_slice(&new.to_be_bytes());
+    record[4..6].copy_from_slice(&(channel as u16).to_be_bytes());
+    record[6] = proposal.station_class as u8;
+    record[8..12].copy_from_slice(&proposal.lat.to_be_bytes());
+    record[12..].copy_from_slice(&proposal.lon.to_be_bytes());
+    let (before, after) = records.split_at(place);
+    put_image([before, &[record], after], image)
+}
+
+/// The table without a station.
+fn withdraw<const BOX: bool>(table: &[u8], gone: u32, image: &mut [u8]) -> Outcome<usize> {
+    let records = judge::<BOX>(table)?;
+    let Ok(position) = sought(records, gone) else {
+        return Err(refusal(23, 0));
+    };
+    put_image([&records[..position], &[], &records[position + 1..]], image)
+}
+
+/// The table with a station on another channel.
+fn move_to<const BOX: bool>(
+    table: &[u8],
+    mover: u32,
+    channel: u32,
+    image: &mut [u8],
+) -> Outcome<usize> {
+    let records = judge::<BOX>(table)?;
+    if !(221..=300).contains(&channel) {
+        return Err(refusal(13, 0));
+    }
+    let Ok(own) = sought(records, mover) else {
+        return Err(refusal(23, 0));
+    };
+    let mut record = records[own];
+    if !movable(&record) {
+        return Err(refusal(25, own));
+    }
+    let held = Held::<BOX>::new(channel, Place::at(&record));
+    if let Some((other, ..)) = held.short(records).find(|&(position, ..)| position != own) {
+        return Err(refusal(20, other));
+    }
+    record[4..6].copy_from_slice(&(channel as u16).to_be_bytes());
+    put_image([&records[..own], &[record], &records[own + 1..]], image)
+}
+
+/// How far two stations reach along the channels: the band around a channel, and the channels 53 and 54 away.
+#[derive(Clone, Copy)]
+struct Reach {
+    band: &'static ByChannel<Channels>,
+    far: &'static ByChannel<Channels>,
+}
+
+impl Reach {
+    /// The channels on which one of the two is short to the other on a channel.
+    fn around(self, channel: usize) -> Channels {
+        self.band[channel] | self.far[channel]
     }
 }
 
@@ -494,41 +712,48 @@ impl Survey {
     }
 }
 
-/// The survey of the asked channels, from a class and a site.
+/// The channels of 201 to 300 that have a requirement against one from first to last.
+fn touched(first: u32, last: u32) -> ByChannel<bool> {
+    let mut table = [false; 256];
+    for (from, to) in [
+        (first - 54, last - 53),
+        (first - 3, last + 3),
+        (first + 53, last + 54),
+    ] {
+        for channel in from.max(201)..=to.min(300) {
+            table[channel as usize % 256] = true;
+        }
+    }
+    table
+}
+
+/// The survey of the channels from first to last, from a class and a site.
 #[inline(always)]
-fn survey<const EAST: bool>(records: &[u8], asked: Channels, lookout: &Lookout<EAST>) -> Survey {
+fn survey<const BOX: bool>(
+    records: &[Record],
+    first: u32,
+    last: u32,
+    lookout: &Lookout<BOX>,
+) -> Survey {
+    let asked = EVERY >> (300 - last) & EVERY << (first - 221);
     let mut survey = Survey {
         taken: 0,
         many: 0,
         who: [0; 80],
     };
-    let mut touches = [false; 128];
-    let mut all = true;
-    for channel in 201..=300 {
-        let touched = (BANDS[2][channel % 128] | FAR[channel % 128]) & asked != 0;
-        touches[channel % 128] = touched;
-        all &= touched;
-    }
-    for (position, record) in each(records).enumerate() {
-        if all || touches[by_channel(record)] {
-            if let Some(reach) = lookout.reach(record) {
-                survey.mark(reach.around(by_channel(record)) & asked, position);
-            }
+    let look = |(position, record): (usize, &Record)| {
+        if let Some(reach) = lookout.reach(record) {
+            survey.mark(reach.around(by_channel(record)) & asked, position);
         }
+    };
+    if asked == EVERY {
+        walk::<BOX>(records, |record| lookout.spaced(record, 0)).for_each(look);
+    } else {
+        let touched = touched(first, last);
+        let passed = |record: &Record| !touched[by_channel(record)] || lookout.spaced(record, 0);
+        walk::<BOX>(records, passed).for_each(look);
     }
     survey
-}
-
-/// The channels of 221 to 300 that the others block for a record at its own site.
-#[inline(never)]
-fn blocked_for<const EAST: bool>(
-    records: &[u8],
-    position: usize,
-    record: &[u8; RECORD],
-) -> Channels {
-    let lookout = Lookout::<EAST>::new(class(record), lat(record), lon(record));
-    let (before, after) = records.split_at(RECORD * position);
-    lookout.blocked(before) | lookout.blocked(&after[RECORD..])
 }
 
 /// What may be done on one new channel.
@@ -540,33 +765,17 @@ enum Plan {
 }
 
 /// The clean arrangements: new channel, id moved and its new channel of each.
-#[inline(never)]
-fn arrange<const EAST: bool>(
+fn arrange<const BOX: bool>(
     table: &[u8],
     first: u32,
     last: u32,
     proposal: &Proposal,
     rows: &mut [u32],
-) -> u64 {
-    match arranged::<EAST>(table, first, last, proposal, rows) {
-        Ok(count) => count as u64,
-        Err(refusal) => refusal,
-    }
-}
-
-fn arranged<const EAST: bool>(
-    table: &[u8],
-    first: u32,
-    last: u32,
-    proposal: &Proposal,
-    rows: &mut [u32],
-) -> Result<usize, u64> {
-    let records = judge(table)?;
+) -> Outcome<usize> {
+    let records = judge::<BOX>(table)?;
     judge_proposal(first, last, proposal)?;
-    let lookout = Lookout::<EAST>::new(proposal.station_class as usize, proposal.lat, proposal.lon);
-    let every = (1 << 80) - 1;
-    let asked: Channels = every >> (300 - last) & every << (first - 221);
-    let survey = survey(records, asked, &lookout);
+    let lookout = Lookout::<BOX>::new(Place::of(proposal));
+    let survey = survey(records, first, last, &lookout);
     let mut plans = [Plan::Nothing; 80];
     let mut need = 0;
     let mut kept = None;
@@ -578,22 +787,21 @@ fn arranged<const EAST: bool>(
             need += 3;
         } else if survey.many >> bit & 1 == 0 {
             let position = usize::from(survey.who[bit]);
-            let record = records[RECORD * position..][..RECORD]
-                .try_into()
-                .expect("sixteen bytes");
+            let record = &records[position];
             if !movable(record) {
                 continue;
             }
             let (taken, reach) = match kept {
                 Some((whose, taken, reach)) if whose == position => (taken, reach),
                 _ => {
-                    let taken = blocked_for::<EAST>(records, position, record);
+                    let there = Lookout::<BOX>::new(Place::at(record));
+                    let taken = there.blocked(records, position);
                     let reach = lookout.reach(record).expect("it stands in the way");
                     kept = Some((position, taken, reach));
                     (taken, reach)
                 }
             };
-            let to = every & !taken & !reach.around(channel as usize % 128);
+            let to = EVERY & !taken & !reach.around(channel as usize % 256);
             *plan = Plan::Moves { id: id(record), to };
             need += 3 * to.count_ones() as usize;
         }
@@ -636,30 +844,49 @@ fn write(first: u32, plans: &[Plan], rows: &mut [u32]) {
     }
 }
 
-/// A question that is tuned here: Read, Check or Arrange. Arrange puts records aside by latitude alone.
-pub fn ask(question: &Question, table: &[u8], rows: &mut [u32]) -> Option<Answer> {
-    answered::<false>(question, table, rows)
+/// Any question; an image goes to `image`, a list to `rows`. Without the box.
+pub fn ask(question: &Question, table: &[u8], image: &mut [u8], rows: &mut [u32]) -> Answer {
+    answer::<false>(question, table, image, rows)
 }
 
-/// The same, where Arrange puts records aside by longitude alone too.
-pub fn ask_east(question: &Question, table: &[u8], rows: &mut [u32]) -> Option<Answer> {
-    answered::<true>(question, table, rows)
+/// The same with the box.
+pub fn ask_box(question: &Question, table: &[u8], image: &mut [u8], rows: &mut [u32]) -> Answer {
+    answer::<true>(question, table, image, rows)
 }
 
-fn answered<const EAST: bool>(
+fn answer<const BOX: bool>(
     question: &Question,
     table: &[u8],
+    image: &mut [u8],
     rows: &mut [u32],
-) -> Option<Answer> {
-    let word = match question {
-        Question::Read => read(table),
-        Question::Check { channel, proposal } => check(table, *channel, proposal, rows),
+) -> Answer {
+    let answer = match *question {
+        Question::Read => judge::<BOX>(table).map(<[Record]>::len),
+        Question::Distance {
+            lat1,
+            lon1,
+            lat2,
+            lon2,
+        } => distance(lat1, lon1, lat2, lon2),
+        Question::Add {
+            id,
+            channel,
+            ref proposal,
+        } => add::<BOX>(table, id, channel, proposal, image),
+        Question::Withdraw { id } => withdraw::<BOX>(table, id, image),
+        Question::Move { id, channel } => move_to::<BOX>(table, id, channel, image),
+        Question::Check {
+            channel,
+            ref proposal,
+        } => check::<BOX>(table, channel, proposal, rows),
         Question::Arrange {
             first,
             last,
-            proposal,
-        } => arrange::<EAST>(table, *first, *last, proposal, rows),
-        _ => return None,
+            ref proposal,
+        } => arrange::<BOX>(table, first, last, proposal, rows),
     };
-    Some(Answer::of(word))
+    Answer::of(match answer {
+        Ok(count) => count as u64,
+        Err(refusal) => refusal,
+    })
 }

@@ -65,7 +65,8 @@ impl Sites {
         }
     }
 
-    /// Holds Check for two classes, and the distance, against the naive desk, from either site; answers whether they are short.
+    /// Holds Check, Arrange and Add for two classes, and the distance, against the naive desk, from either site; answers whether
+    /// they are short.
     fn held(&self, a: u32, b: u32, difference: u32) -> bool {
         let mut verdicts = Vec::new();
         for (station_class, class, station, asked) in [
@@ -81,15 +82,21 @@ impl Sites {
                 lat: self.lat2,
                 lon: self.lon2,
             };
-            let found = agree_in(
-                &Question::Check {
-                    channel: asked,
-                    proposal,
-                },
-                &table,
-                0,
-                3,
-            );
+            let hold = |question: Question| agree_in(&question, &table, 40, 240);
+            hold(Question::Arrange {
+                first: asked,
+                last: asked,
+                proposal,
+            });
+            hold(Question::Add {
+                id: 9,
+                channel: asked,
+                proposal,
+            });
+            let found = hold(Question::Check {
+                channel: asked,
+                proposal,
+            });
             verdicts.push(!found.list().is_empty());
         }
         assert!(verdicts.iter().all(|&verdict| verdict == verdicts[0]));

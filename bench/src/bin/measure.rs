@@ -1,149 +1,167 @@
-//! measure WHO WHAT SIZE SITES: one workload, its calls all made from `measured`, so that callgrind can count them alone.
+//! measure WHO WHAT SIZE SITES: one workload. Prints what came of it, the same for all who answer alike; then makes the same calls
+//! again from `measured`, so that callgrind can count them alone.
 
-use fms_bench::question::{Answer, Proposal, Question};
+use fms_bench::question::{Answer, Ask, Proposal, Question};
 use fms_bench::{fms, made, naive, tuned};
+use std::hint::black_box;
 use std::process::exit;
 
-const USAGE: &str = "usage: measure product|tuned|tuned-east|naive \
+const USAGE: &str = "usage: measure product|tuned|tuned-box|naive \
     read|check|arrange|arrange-one-by-one|add|withdraw|move 250|2000 SITES";
 
 /// Who answers.
-#[derive(Clone, Copy)]
-enum Who {
-    Product,
-    Tuned,
-    TunedEast,
-    Naive,
-}
-
-impl Who {
-    fn named(name: &str) -> Option<Who> {
-        match name {
-            "product" => Some(Who::Product),
-            "tuned" => Some(Who::Tuned),
-            "tuned-east" => Some(Who::TunedEast),
-            "naive" => Some(Who::Naive),
-            _ => None,
-        }
-    }
-
-    fn ask(
-        self,
-        question: &Question,
-        table: &[u8],
-        image: &mut [u8],
-        rows: &mut [u32],
-    ) -> Option<Answer> {
-        match self {
-            Who::Product => Some(fms::ask(question, table, image, rows)),
-            Who::Tuned => tuned::ask(question, table, rows),
-            Who::TunedEast => tuned::ask_east(question, table, rows),
-            Who::Naive => Some(naive::ask(question, table, image, rows)),
-        }
-    }
-}
-
-/// The questions of a workload: one for each site, or 80 where each channel is asked for by itself.
-fn questions(what: &str, table: &[u8], sites: &[Proposal]) -> Option<Vec<Question>> {
-    let count = (table.len() - 8) / 16;
-    // Evenly spread records, and channels in turn.
-    let id = |i: usize| {
-        let at = 8 + 16 * (i * count / sites.len());
-        u32::from_be_bytes([table[at], table[at + 1], table[at + 2], table[at + 3]])
-    };
-    let channel = |i: usize| 221 + (i * 7 % 80) as u32;
-    let each = |ask: &dyn Fn(usize, Proposal) -> Question| {
-        Some(
-            sites
-                .iter()
-                .enumerate()
-                .map(|(i, &proposal)| ask(i, proposal))
-                .collect(),
-        )
-    };
-    match what {
-        "read" => each(&|_, _| Question::Read),
-        "check" => each(&|i, proposal| Question::Check {
-            channel: channel(i),
-            proposal,
-        }),
-        "arrange" => each(&|_, proposal| Question::Arrange {
-            first: 221,
-            last: 300,
-            proposal,
-        }),
-        "arrange-one-by-one" => Some(
-            sites
-                .iter()
-                .flat_map(|&proposal| {
-                    (221..=300).map(move |c| Question::Arrange {
-                        first: c,
-                        last: c,
-                        proposal,
-                    })
-                })
-                .collect(),
-        ),
-        "add" => each(&|i, proposal| Question::Add {
-            id: 1_000_000,
-            channel: channel(i),
-            proposal,
-        }),
-        "withdraw" => each(&|i, _| Question::Withdraw { id: id(i) }),
-        "move" => each(&|i, _| Question::Move {
-            id: id(i),
-            channel: channel(i),
-        }),
+fn named(who: &str) -> Option<Ask> {
+    match who {
+        "product" => Some(fms::ask),
+        "tuned" => Some(tuned::ask),
+        "tuned-box" => Some(tuned::ask_box),
+        "naive" => Some(naive::ask),
         _ => None,
     }
 }
 
-/// Every call that is to be counted. Gives a sum over the answers, the same for all who answer alike.
+/// Channels 221 to 300, in each turn from another one on.
+fn channels(turn: usize) -> impl Iterator<Item = u32> {
+    (0..80).map(move |place| 221 + (7 * turn as u32 + place) % 80)
+}
+
+fn arrange(first: u32, last: u32, proposal: Proposal) -> Question {
+    Question::Arrange {
+        first,
+        last,
+        proposal,
+    }
+}
+
+/// The first of some changes that is granted.
+fn granted(table: &[u8], mut changes: impl Iterator<Item = Question>) -> Vec<Question> {
+    let mut image = vec![0; table.len() + 16];
+    let change = changes.find(|change| {
+        let answer = tuned::ask_box(change, table, &mut image, &mut []);
+        matches!(answer, Answer::Granted(_))
+    });
+    vec![change.expect("one is granted")]
+}
+
+/// The questions of a workload: one for each site, or 80 where each channel is asked for by itself. Adds, withdrawals and moves
+/// are such as are granted, at places of the table that are evenly spread.
+fn questions(what: &str, table: &[u8], sites: &[Proposal]) -> Option<Vec<Question>> {
+    let (records, _) = table[8..].as_chunks::<16>();
+    let ids: Vec<u32> = records
+        .iter()
+        .map(|&[a, b, c, d, ..]| u32::from_be_bytes([a, b, c, d]))
+        .collect();
+    let mut questions = Vec::new();
+    for (turn, &proposal) in sites.iter().enumerate() {
+        let ids = &ids[turn * ids.len() / sites.len()..];
+        questions.extend(match what {
+            "read" => vec![Question::Read],
+            "check" => channels(turn)
+                .take(1)
+                .map(|channel| Question::Check { channel, proposal })
+                .collect(),
+            "arrange" => vec![arrange(221, 300, proposal)],
+            "arrange-one-by-one" => (221..=300)
+                .map(|channel| arrange(channel, channel, proposal))
+                .collect(),
+            "add" => {
+                let mut pairs = ids.windows(2);
+                let gap = pairs
+                    .find(|pair| pair[0] + 1 < pair[1])
+                    .expect("ids with a gap");
+                let add = |channel| Question::Add {
+                    id: gap[0] + 1,
+                    channel,
+                    proposal,
+                };
+                granted(table, channels(turn).map(add))
+            }
+            "withdraw" => granted(table, ids.iter().map(|&id| Question::Withdraw { id })),
+            "move" => {
+                let moves =
+                    |&id: &u32| channels(turn).map(move |channel| Question::Move { id, channel });
+                granted(table, ids.iter().flat_map(moves))
+            }
+            _ => return None,
+        });
+    }
+    Some(questions)
+}
+
+/// A workload: who answers, what is asked about which table, and the lent buffers.
+struct Workload {
+    ask: Ask,
+    table: Vec<u8>,
+    questions: Vec<Question>,
+    image: Vec<u8>,
+    rows: Vec<u32>,
+}
+
+impl Workload {
+    /// The workload of these words, where they name one.
+    fn named(words: &[String]) -> Option<Workload> {
+        let [who, what, size, sites] = words else {
+            return None;
+        };
+        let ask = named(who)?;
+        let size = match &size[..] {
+            "250" => 250,
+            "2000" => 2_000,
+            _ => return None,
+        };
+        // Add has room for one more station.
+        let table = made::region(1, size - usize::from(what == "add"));
+        let sites = made::region_proposals(2, sites.parse().ok()?);
+        Some(Workload {
+            ask,
+            questions: questions(what, &table, &sites)?,
+            table,
+            image: vec![0; 8 + 16 * size],
+            rows: vec![0; 3 * 80 * 79],
+        })
+    }
+
+    /// A sum over the answers and what was written for each, and how many questions are granted.
+    fn told(&mut self) -> String {
+        let (mut sum, mut granted) = (0u64, 0);
+        for question in &self.questions {
+            let answer = (self.ask)(question, &self.table, &mut self.image, &mut self.rows);
+            let written = match answer {
+                Answer::Granted(count) => count as usize,
+                Answer::Refused { .. } => 0,
+            };
+            granted += usize::from(matches!(answer, Answer::Granted(_)));
+            sum = [answer.word()]
+                .into_iter()
+                .chain(self.image.iter().take(written).map(|&byte| byte.into()))
+                .chain(self.rows.iter().take(written).map(|&number| number.into()))
+                .fold(sum, |sum, word| sum.wrapping_mul(31).wrapping_add(word));
+        }
+        format!("{sum}, {granted} of {} granted", self.questions.len())
+    }
+}
+
+/// Every call that is to be counted. Nothing may follow it: on Arm callgrind does not always see where it ends.
 #[no_mangle]
 #[inline(never)]
-fn measured(
-    who: Who,
-    questions: &[Question],
-    table: &[u8],
-    image: &mut [u8],
-    rows: &mut [u32],
-) -> Option<u64> {
-    let mut sum = 0u64;
-    for question in questions {
-        sum = sum
-            .wrapping_mul(31)
-            .wrapping_add(who.ask(question, table, image, rows)?.word());
+fn measured(work: &mut Workload) {
+    for question in &work.questions {
+        black_box((work.ask)(
+            question,
+            &work.table,
+            &mut work.image,
+            &mut work.rows,
+        ));
     }
-    Some(sum)
 }
 
 fn main() {
     let words: Vec<String> = std::env::args().skip(1).collect();
-    let [who, what, size, sites] = &words[..] else {
+    let Some(mut work) = Workload::named(&words) else {
         eprintln!("{USAGE}");
         exit(2);
     };
-    let (Some(who), true, Ok(sites)) = (
-        Who::named(who),
-        size == "250" || size == "2000",
-        sites.parse::<usize>(),
-    ) else {
-        eprintln!("{USAGE}");
-        exit(2);
-    };
-    let table = made::region(1, size.parse().expect("a number"));
-    let sites = made::region_proposals(2, sites);
-    let Some(questions) = questions(what, &table, &sites) else {
-        eprintln!("{USAGE}");
-        exit(2);
-    };
-    let mut image = vec![0; 8 + 16 * 2_000];
-    let mut rows = vec![0; 3 * 80 * 79];
-    match measured(who, &questions, &table, &mut image, &mut rows) {
-        Some(sum) => println!("{sum}"),
-        None => {
-            eprintln!("Only read, check and arrange are tuned.");
-            exit(2);
-        }
-    }
+    println!("{}", work.told());
+    measured(&mut work);
+    exit(0);
 }

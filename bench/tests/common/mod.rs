@@ -2,7 +2,7 @@
 #![allow(dead_code)]
 
 use fms_bench::naive::{image_of, Station};
-use fms_bench::question::{Answer, Proposal, Question};
+use fms_bench::question::{Answer, Ask, Proposal, Question};
 use fms_bench::{fms, naive, tuned};
 
 /// What stands in a buffer before it is lent.
@@ -47,8 +47,6 @@ impl Outcome {
         &self.image[..count as usize]
     }
 }
-
-type Ask = fn(&Question, &[u8], &mut [u8], &mut [u32]) -> Answer;
 
 fn outcome(
     ask: Ask,
@@ -100,41 +98,27 @@ pub fn reference(
     outcome(naive::ask, question, table, image_room, rows_room)
 }
 
-/// What the tuned desks make of it, where it is one of their questions.
-pub fn yardsticks(question: &Question, table: &[u8], rows_room: usize) -> Vec<Outcome> {
-    let by_latitude: Ask =
-        |question, table, _, rows| tuned::ask(question, table, rows).expect("a tuned question");
-    let by_both: Ask = |question, table, _, rows| {
-        tuned::ask_east(question, table, rows).expect("a tuned question")
-    };
-    match question {
-        Question::Read | Question::Check { .. } | Question::Arrange { .. } => {
-            [by_latitude, by_both]
-                .map(|ask| outcome(ask, question, table, 0, rows_room))
-                .into()
-        }
-        _ => Vec::new(),
-    }
-}
+/// The tuned desks.
+const TUNED: [(&str, Ask); 2] = [
+    ("tuned", tuned::ask),
+    ("tuned with the box", tuned::ask_box),
+];
 
 /// Holds the library and the tuned desks against the naive one, with so much room.
 pub fn agree_in(question: &Question, table: &[u8], image_room: usize, rows_room: usize) -> Outcome {
     let expected = reference(question, table, image_room, rows_room);
-    let found = product(question, table, image_room, rows_room);
-    assert!(
-        found == expected,
-        "{question:?} with room for {image_room} bytes and {rows_room} numbers\n\
-         on {table:?}\nproduct {:?}\nnaive   {:?}",
-        found.answer,
-        expected.answer
-    );
-    for found in yardsticks(question, table, rows_room) {
+    let hold = |who: &str, found: Outcome| {
         assert!(
-            found.answer == expected.answer && found.rows == expected.rows,
-            "{question:?} with room for {rows_room} numbers\non {table:?}\ntuned {:?}\nnaive {:?}",
+            found == expected,
+            "{question:?} with room for {image_room} bytes and {rows_room} numbers\n\
+             on {table:?}\n{who}: {:?}\nnaive: {:?}",
             found.answer,
             expected.answer
         );
+    };
+    hold("product", product(question, table, image_room, rows_room));
+    for (who, ask) in TUNED {
+        hold(who, outcome(ask, question, table, image_room, rows_room));
     }
     expected
 }

@@ -1,5 +1,7 @@
 pub mod Blank
 pub mod Movers
+pub mod Positions
 pub mod Unique
 pub mod Asked
 pub mod Meaning
+pub mod Aside

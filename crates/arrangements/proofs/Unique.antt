@@ -1,110 +1,101 @@
 -- Arrange: the naive enumeration is what the marks of the new channels and the flags of the moves say. Assumes nothing.
 use mathlib.Core.Path.{_≡_, refl, sym, ap, _∙_}
-use mathlib.Core.Bool.{Bool, false, true≢false}
-use mathlib.Core.List.{List, [], _∷_, map}
-use Prim.Native.Nat.{ℕ, suc, _+_, _-_, _≤_, _<_}
+use mathlib.Core.Bool.{Bool, true≢false}
+use mathlib.Core.List.{List, [], _∷_}
+use Prim.Native.Nat.{ℕ, suc, _+_, _-_, _<_}
 use native.Mathlib.Omega.{arith}
-use lib.IntN.{ℤ}
-use lib.ListN.{getD}
-use Rattle.ground.specs.Lists.{span, each, keep}
-use Rattle.ground.specs.Rows.{Row, row, flat}
-use Rattle.ground.proofs.Spans.{each-cong, each-none, each-single, keep-none}
+use Rattle.ground.specs.Lists.{span}
+use Rattle.ground.specs.Rows.{row, flat}
+use Rattle.ground.proofs.Spans.{each-cong}
+use Rattle.ground.proofs.Tests.{fails-where}
 use Rattle.ground.proofs.Writes.{flat-keep, flat-each}
-use Rattle.spacing.specs.Pair.{assignment}
-use Rattle.stations.specs.Image.{stationAt}
-use Rattle.survey.specs.Ways.{everyRecord, blocks}
-use Rattle.survey.specs.Marks.{seen, Marked}
-use Rattle.planning.specs.Scene.{Scene, scene, allowed}
-use Rattle.planning.specs.Flags.{place, Lone, Planned}
+use Rattle.part73.specs.Channels.{lowest, channelCount, newChannels}
+use Rattle.part73.specs.TableA.{tableA}
+use Rattle.spacing.specs.Pair.{sited}
+use Rattle.spacing.specs.declared.Place.{Place}
+use Rattle.stations.specs.Image.{count, Accepted}
+use Rattle.survey.specs.Ways.{everyRecord, studied}
+use Rattle.survey.specs.Marks.{blocks, many, seen, Marked}
+use Rattle.survey.specs.declared.Channels.{Channels}
+use Rattle.survey.proofs.Records.{few}
+use Rattle.planning.specs.Scene.{Scene, scene, sceneOf, allowed}
+use Rattle.planning.specs.Flags.{rowOf, Rowed, Right, Planned}
 use Rattle.planning.proofs.Single.{First}
-use Rattle.planning.proofs.Tallies.{Tally, nobody, lone, several, tally, mark-of}
-use Rattle.arrangements.specs.Arrange.{moves, arranged, arrangements}
-use Rattle.arrangements.specs.Meaning.{Clear}
-use Rattle.listing.specs.Listing.{moveAt, markRows, allRows, Marks}
-use Rattle.arrangements.proofs.Movers.{clear-is, blocked-is, LoneBlocker, not-allowed}
+use Rattle.planning.proofs.Tallies.{Tally, nobody, lone, several, tally}
+use Rattle.listing.specs.Listing.{idAt, moveRows, markRows, allRows}
 use Rattle.listing.proofs.Marking.{rows-free, rows-many, rows-lone}
+use Rattle.arrangements.specs.Placed.{movesOf, moves, arranged, arrangements}
+use Rattle.arrangements.specs.Arrange.{rowsFor}
+use Rattle.arrangements.proofs.Movers.{Clear, clear-is, no-moves, moves-of}
+use Rattle.arrangements.proofs.Positions.{arrangements-at}
 
 -- ---- one new channel
 
 module _ (t : Scene) (c : ℕ) where
-  movesOf : ℕ → List Row
-  movesOf i = map (λ m. row c (t .id i) m) (keep (allowed t c i) (span 221 80))
-
-  -- none but the lone blocker of a blocked channel has moves
-  no-moves : (i : ℕ) → (Clear t c → ⊥) → (LoneBlocker t c i → ⊥) → movesOf i ≡ []
-  unfolding movesOf
-  no-moves i blocked other = ap (map (λ m. row c (t .id i) m)) (keep-none (allowed t c i) (span 221 80) (λ m. not-allowed t c i m blocked other))
-
   -- none is in the way
   free-numbers : First (t .new c) 0 (t .size) (t .size) → c ∷ 0 ∷ 0 ∷ [] ≡ flat (arranged t c)
   unfolding flat arranged
   free-numbers f = rw (clear-is t c .1 (λ j h. f .passed j (omega arith) h))
 
-  no-numbers : arranged t c ≡ [] → [] ≡ flat (arranged t c)
-  unfolding flat
-  no-numbers e = sym (ap flat e)
-
   module _ (a : ℕ) (first : First (t .new c) 0 (t .size) a) (within : a < t .size) where
     blocked : Clear t c → ⊥
     blocked f = true≢false (sym (first .hit within) ∙ f a within)
 
+    -- what is blocked has the moves
+    arranged-moves : arranged t c ≡ moves t c
+    unfolding arranged
+    arranged-moves = rw (fails-where (clear-is t c) blocked)
+
     -- two are
     two-numbers : (b : ℕ) → First (t .new c) (a + 1) (t .size) b → b < t .size → [] ≡ flat (arranged t c)
-    unfolding arranged moves movesOf
+    unfolding flat
     two-numbers b second inside =
-        no-numbers (rw (blocked-is t c blocked) (each-none movesOf (t .size) 0 (λ i lo hi. no-moves i blocked (λ l.
-        omega (arith, second .low, l .alone a within (first .hit within), l .alone b inside (second .hit inside))))))
-
-    -- just the one at a is
-    arranged-one : arranged t c ≡ movesOf a
-    unfolding arranged moves movesOf
-    arranged-one =
-        rw (blocked-is t c blocked) (each-single movesOf (t .size) 0 a (omega arith) (omega arith) (λ i lo hi ne.
-        no-moves i blocked (λ l. ne (sym (l .alone a within (first .hit within))))))
+        sym (ap flat (arranged-moves ∙ no-moves t c a b (omega (arith, second .low)) inside (first .hit within) (second .hit inside) blocked))
 
     -- the numbers, from the flags of its moves
-    move-numbers : (low : ℕ) (flags : List Bool) → ((m : ℕ) → 221 ≤ m → m ≤ 300 → getD flags (place low c m) false ≡ allowed t c a m) → each (moveAt low flags (t .id a) c) (span 221 80) ≡ flat (arranged t c)
+    move-numbers : (flags : List Bool) → Rowed (allowed t c a) flags → moveRows flags (t .id a) c ≡ flat (arranged t c)
     unfolding movesOf
-    move-numbers low flags right =
-        each-cong _ _ 80 221 (λ m lo hi. rw (right m lo (omega arith)))
-        ∙ sym (flat-keep (allowed t c a) (λ m. row c (t .id a) m) (span 221 80))
-        ∙ sym (ap flat arranged-one)
+    move-numbers flags right =
+        each-cong _ _ channelCount lowest (λ m lo hi. rw (right .at m lo (omega arith)))
+        ∙ sym (flat-keep (allowed t c a) (λ m. row c (t .id a) m) newChannels)
+        ∙ sym (ap flat (arranged-moves ∙ moves-of t c a within (first .hit within) blocked))
 
   -- the numbers of a channel
-  pub by-mark : (v low : ℕ) (flags : List Bool) → t .size ≤ 65534 → Tally (t .new c) (t .size) v → (Lone v → (m : ℕ) → 221 ≤ m → m ≤ 300 → getD flags (place low c m) false ≡ allowed t c (v - 1) m) → markRows (t .id) low flags c v ≡ flat (arranged t c)
-  by-mark v low flags few (nobody f) right = sym (rows-free (t .id) low flags c 0 refl) ∙ free-numbers f
-  by-mark v low flags few (lone a l f g) right =
+  pub by-mark : (v : ℕ) (flags : List Bool) → t .size < many → Tally (t .new c) (t .size) v → Right t c v flags → markRows (t .id) flags c v ≡ flat (arranged t c)
+  by-mark v flags few (nobody f) right = sym (rows-free (t .id) flags c 0 refl) ∙ free-numbers f
+  by-mark v flags few (lone a l f g) right =
       let e : suc a - 1 ≡ a = omega arith in
-      sym (rows-lone (t .id) low flags c (suc a) (λ q. omega arith) (λ q. omega arith))
-      ∙ ap (λ (i : ℕ). each (moveAt low flags (t .id i) c) (span 221 80)) e
-      ∙ move-numbers a f l low flags (λ m lo hi. right (omega arith, omega arith) m lo hi ∙ ap (λ (i : ℕ). allowed t c i m) e)
-  by-mark v low flags few (several a b l f g h) right = sym (rows-many (t .id) low flags c 65535 (λ q. omega arith) refl) ∙ two-numbers a f l b g h
+      sym (rows-lone (t .id) flags c (suc a) (λ q. omega arith) (λ q. omega arith))
+      ∙ ap (λ (i : ℕ). moveRows flags (t .id i) c) e
+      ∙ move-numbers a f l flags (rw e at (right (omega arith, omega arith)))
+  by-mark v flags few (several a b l f g h) right = sym (rows-many (t .id) flags c many (λ q. omega arith) refl) ∙ two-numbers a f l b g h
 
 -- ---- one channel after the other
 
-pub rows-all : (t : Scene) (marks : List ℕ) (flags : List Bool) (first last : ℕ) → t .size ≤ 65534 → ((x : ℕ) → first ≤ x → x ≤ last → getD marks (x - 221) 0 ≡ seen (t .new x) (t .size)) → Planned t first (suc last) flags
-    → allRows (t .id) marks first last flags ≡ flat (arrangements t first last)
+pub rows-all : (t : Scene) (marks : List ℕ) (flags : List Bool) (channels : Channels) → t .size < many → Marked (t .new) (channels .first) (channels .last) (t .size) marks → Planned t (channels .first) (suc (channels .last)) flags
+    → allRows (t .id) marks channels flags ≡ flat (arrangements t (channels .first) (channels .last))
 unfolding arrangements
-rows-all t marks flags first last few marked p =
+rows-all t marks flags channels few w p =
+    let first = channels .first in
+    let last = channels .last in
     each-cong _ _ (suc last - first) first (λ x lo hi.
-    ap (markRows (t .id) first flags x) (marked x lo (omega arith))
-    ∙ by-mark t x (seen (t .new x) (t .size)) first flags few (tally (t .new x) (t .size)) (λ o. p .done x lo (omega arith) o))
+    ap (markRows (t .id) (rowOf first flags x) x) (w .at x lo (omega arith))
+    ∙ by-mark t x (seen (t .new x) (t .size)) (rowOf first flags x) few (tally (t .new x) (t .size)) (p .done x lo (omega arith)))
     ∙ sym (flat-each (arranged t) (span first (suc last - first)))
 
--- ---- the same for the scene of a table of which a question looks at every record
+-- ---- the same for the scene of a question
 
-module _ (s : List ℕ) (n class : ℕ) (lat lon : ℤ) where
-  abbrev t : Scene
-  t = scene everyRecord s n class lat lon
-
-  pub as-new : {first last : ℕ} {marks : List ℕ} → Marked (λ m j. blocks everyRecord s (assignment m class lat lon) j) first last n marks → Marked (t .new) first last n marks
+module _ (s : List ℕ) (p : Place) (channels : Channels) {marks : List ℕ} where
+  pub as-new : Marked (λ m j. blocks tableA everyRecord s (sited p m) j) (channels .first) (channels .last) (count s) marks → Marked (sceneOf s p .new) (channels .first) (channels .last) (count s) marks
   unfolding scene
   as-new w = w
 
-  pub marks-ok : {first last : ℕ} {marks : List ℕ} → Marked (t .new) first last n marks → Marks n first last marks
-  marks-ok w = record { at = λ m lo hi. rw (w .at m lo hi) (mark-of (t .new m) n _ (tally (t .new m) n)) }
-
-  pub rows-of : {marks : List ℕ} {flags : List Bool} (first last : ℕ) → n ≤ 65534 → Marked (t .new) first last n marks → Planned t first (suc last) flags
-      → allRows (λ j. stationAt s j .id) marks first last flags ≡ flat (arrangements t first last)
+  rows-placed : {flags : List Bool} → count s < many → Marked (sceneOf s p .new) (channels .first) (channels .last) (count s) marks → Planned (sceneOf s p) (channels .first) (suc (channels .last)) flags
+      → allRows (idAt s) marks channels flags ≡ flat (arrangements (sceneOf s p) (channels .first) (channels .last))
   unfolding scene
-  rows-of {marks} {flags} first last few w p = rows-all t marks flags first last few (λ x a b. w .at x a b) p
+  rows-placed {flags} few w q = rows-all (sceneOf s p) marks flags channels few w q
+
+  pub rows-of : {flags : List Bool} → Accepted s → Marked (sceneOf s p .new) (channels .first) (channels .last) (count s) marks → Planned (sceneOf s p) (channels .first) (suc (channels .last)) flags
+      → allRows (idAt s) marks channels flags ≡ rowsFor s (sited p) (channels .first) (channels .last)
+  unfolding studied
+  rows-of e w q = rows-placed (omega (arith, few s e)) w q ∙ sym (ap flat (arrangements-at tableA everyRecord s e (sited p) (channels .first) (channels .last)))

@@ -1,33 +1,59 @@
 -- 01, The questions: Arrange, by enumeration. Every new channel of the range; where it is blocked as things stand, every
--- movable station and every channel 221 to 300 but its own; kept where clean. What is clean: `clear` and `allowed` in
--- crates/planning/specs/Scene.antt. Assumes nothing.
+-- movable station and every channel 221 to 300 but its own; kept where clean. Assumes nothing.
 use Prim.Native.Nat.{ℕ, suc, _-_}
-use mathlib.Core.Bool.{cond}
+use mathlib.Core.Bool.{Bool, not, cond, _&&_}
 use mathlib.Core.List.{List, [], _∷_, map}
+use lib.Dec.{eqb}
 use Rattle.ground.specs.Lists.{span, each, keep}
 use Rattle.ground.specs.Rows.{Row, row, flat}
-use Rattle.stations.specs.Image.{count, judged}
-use Rattle.survey.specs.Ways.{everyRecord}
+use Rattle.part73.specs.Channels.{newChannels}
+use Rattle.part73.specs.TableA.{tableA}
+use Rattle.spacing.specs.Pair.{Assignment, sited}
+use Rattle.spacing.specs.declared.Place.{Place}
+use Rattle.stations.specs.Image.{stations, judged}
+use Rattle.stations.specs.Lists.{movable, without, onto}
+use Rattle.stations.specs.declared.Station.{Station}
+use Rattle.survey.specs.Ways.{onChannel, studied, clear}
 use Rattle.desk.specs.Answers.{Outcome, grant, onTable, onAsked}
 use Rattle.desk.specs.Asked.{askedFault}
-use Rattle.planning.specs.Scene.{Scene, scene, clear, allowed}
 use Rattle.arrangements.specs.declared.Wanted.{Wanted}
 
--- every station, every moved channel
-unfoldable pub moves : Scene → ℕ → List Row
-moves t c = each (λ i. map (λ m. row c (t .id i) m) (keep (allowed t c i) (span 221 80))) (span 0 (t .size))
+-- the new station's class and site, and the station on each channel
+abbrev pub placeAsked : Wanted → Place
+placeAsked w = record { class = w .class; latitude = w .latitude; longitude = w .longitude }
 
--- the rows of one new channel: 0 and 0 where nothing moves; moves only where it is blocked as things stand
-unfoldable pub arranged : Scene → ℕ → List Row
-arranged t c = cond (clear t c) (row c 0 0 ∷ []) (moves t c)
+abbrev pub asked : Wanted → ℕ → Assignment
+asked w = sited (placeAsked w)
 
--- the rows of the new channels from first to last
-unfoldable pub arrangements : Scene → ℕ → ℕ → List Row
-arrangements t first last = each (arranged t) (span first (suc last - first))
+-- with the new station in place r may go to m: it is movable, m is not its own channel, and neither the moved station nor
+-- the new one is short to anybody, each other included
+unfoldable pub allowed : (ℕ → ℕ → ℕ → ℕ) → Assignment → List Station → Station → ℕ → Bool
+allowed km new ss r m =
+    movable r
+    && (not (eqb m (r .channel))
+    && (clear km (onChannel m r) (without (r .id) ss)
+    && clear km new (onto m r ∷ without (r .id) ss)))
+
+module _ (km : ℕ → ℕ → ℕ → ℕ) (new : ℕ → Assignment) (ss : List Station) where
+  -- the rows of a new channel that move one station
+  unfoldable pub movesOf : ℕ → Station → List Row
+  movesOf c r = map (λ m. row c (r .id) m) (keep (allowed km (new c) ss r) newChannels)
+
+  -- the rows of one new channel: 0 and 0 where nothing moves; moves only where it is blocked as things stand
+  unfoldable pub arranged : ℕ → List Row
+  arranged c = cond (clear km (new c) ss) (row c 0 0 ∷ []) (each (movesOf c) ss)
+
+  -- the rows of the new channels from first to last
+  unfoldable pub arrangements : ℕ → ℕ → List Row
+  arrangements first last = each arranged (span first (suc last - first))
+
+-- the numbers of the rows of a table, by Table A
+abbrev pub rowsFor : List ℕ → (ℕ → Assignment) → ℕ → ℕ → List ℕ
+rowsFor s new first last = flat (arrangements tableA new (studied (stations s)) first last)
 
 -- the outcome of the question
 unfoldable pub arrangedFor : List ℕ → Wanted → Outcome
 arrangedFor s w =
     onTable (judged s)
     (onAsked (askedFault (w .first) (w .last) (w .class) (w .zone) (w .latitude) (w .longitude))
-    (grant (flat (arrangements (scene everyRecord s (count s) (w .class) (w .latitude) (w .longitude)) (w .first) (w .last)))))
+    (grant (rowsFor s (asked w) (w .first) (w .last))))

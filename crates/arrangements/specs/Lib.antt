@@ -1,2 +1,4 @@
 pub mod Arrange
+pub mod Placed
+pub mod Answering
 pub mod Meaning

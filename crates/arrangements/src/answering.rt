@@ -1,60 +1,47 @@
 // The answer to a question that passed: the survey, the moves, the rows.
-ghost use mathlib.Core.Path.{_≡_};
-ghost use Prim.Native.Nat.{_≤_};
-ghost use Rattle.ground.specs.Rows.{flat};
-ghost use Rattle.spacing.specs.Limits.{Sound};
-ghost use Rattle.stations.specs.Image.{judged};
-ghost use Rattle.stations.specs.declared.Judged.the-variants.{Table};
-ghost use Rattle.survey.specs.Ways.{everyRecord};
+ghost use Rattle.spacing.specs.Pair.{sited};
 ghost use Rattle.desk.specs.Answers.{grant, Answered};
-ghost use Rattle.planning.specs.Scene.{scene};
-ghost use Rattle.planning.specs.Flags.{Room, Down};
-ghost use Rattle.arrangements.specs.Arrange.{arrangements};
+ghost use Rattle.arrangements.specs.Arrange.{rowsFor};
+ghost use Rattle.arrangements.specs.Answering.{Question, Flagged};
 use desk::Answer;
+use part73::CHANNEL_COUNT;
+use spacing::Place;
+use survey::Channels;
+
+// So many new channels take a short list of flags.
+const FEW: usize = 8;
+
+const FEW_FLAGS: usize = FEW * CHANNEL_COUNT;
+
+const ALL_FLAGS: usize = CHANNEL_COUNT * CHANNEL_COUNT;
 
 // The answer, by flags that are lent, all down.
 fn list_with(
     table: &[u8],
-    n: usize,
-    class: usize,
-    lat: i32,
-    lon: i32,
-    first: usize,
-    last: usize,
+    place: Place,
+    channels: Channels,
     moves: &mut [bool],
     rows: &mut [u32],
 ) -> Answer
-    requires { ⌜ judged (now table) ≡ Table n ⌝ }
-    requires { ⌜ (Sound class lat lon) × ((221 ≤ first) × ((first ≤ last) × (last ≤ 300))) ⌝ }
-    requires { ⌜ (Down 0 (now moves)) × (Room first last (now moves)) ⌝ }
-    ensures { λ r. ⌜ Answered (grant (flat (arrangements (scene everyRecord (now (table .entry)) n class lat lon) first last))) (now (rows .entry)) (now (rows .exit)) r ⌝ }
+    requires { ⌜ Flagged (now table) place channels (now moves) ⌝ }
+    ensures { λ r. ⌜ Answered (grant (rowsFor (now (table .entry)) (sited place) (channels .first) (channels .last))) (now (rows .entry)) (now (rows .exit)) r ⌝ }
 {
-    let near = spacing::limits_of(class, lat);
-    let mut marks = [0u16; 80];
-    survey::survey(table, n, class, &near, lat, lon, first, last, &mut marks);
-    planning::plan(table, n, class, &near, lat, lon, first, last, &marks, moves);
-    listing::list_if_room(table, n, first, last, &marks, moves, rows)
+    let limits = spacing::limits_of(place);
+    let mut marks = [0u16; CHANNEL_COUNT];
+    survey::survey(table, place, &limits, channels, &mut marks);
+    planning::plan(table, place, &limits, channels, &marks, moves);
+    listing::list_if_room(table, channels, &marks, moves, rows)
 }
 
-// The answer, once table and question have passed. At most eight new channels take a short list of flags.
-pub fn list_asked(
-    table: &[u8],
-    n: usize,
-    class: usize,
-    lat: i32,
-    lon: i32,
-    first: usize,
-    last: usize,
-    rows: &mut [u32],
-) -> Answer
-    requires { ⌜ judged (now table) ≡ Table n ⌝ }
-    requires { ⌜ (Sound class lat lon) × ((221 ≤ first) × ((first ≤ last) × (last ≤ 300))) ⌝ }
-    ensures { λ r. ⌜ Answered (grant (flat (arrangements (scene everyRecord (now (table .entry)) n class lat lon) first last))) (now (rows .entry)) (now (rows .exit)) r ⌝ }
+// The answer, once table and question have passed.
+pub fn list_asked(table: &[u8], place: Place, channels: Channels, rows: &mut [u32]) -> Answer
+    requires { ⌜ Question (now table) place channels ⌝ }
+    ensures { λ r. ⌜ Answered (grant (rowsFor (now (table .entry)) (sited place) (channels .first) (channels .last))) (now (rows .entry)) (now (rows .exit)) r ⌝ }
 {
-    if last - first < 8 {
-        let mut few = [false; 640];
-        return list_with(table, n, class, lat, lon, first, last, &mut few, rows);
+    if channels.last - channels.first < FEW {
+        let mut few = [false; FEW_FLAGS];
+        return list_with(table, place, channels, &mut few, rows);
     }
-    let mut all = [false; 6400];
-    list_with(table, n, class, lat, lon, first, last, &mut all, rows)
+    let mut all = [false; ALL_FLAGS];
+    list_with(table, place, channels, &mut all, rows)
 }

@@ -6,8 +6,10 @@ mod answering;
 
 use answering::list_asked;
 use desk::Answer;
+use spacing::Place;
 use stations::Judged;
 use stations::Verdict;
+use survey::Channels;
 
 // The new channels that are asked for, from first to last, and the new station's class, zone and site.
 pub struct Wanted {
@@ -24,7 +26,7 @@ pub fn arrange(table: &[u8], wanted: Wanted, rows: &mut [u32]) -> Answer
     ensures { λ r. ⌜ Answered (arrangedFor (now (table .entry)) wanted) (now (rows .entry)) (now (rows .exit)) r ⌝ }
 {
     let j = stations::judge(table);
-    let Judged::Table(n) = j else {
+    let Judged::Table(_) = j else {
         return desk::left(j);
     };
     let first = wanted.first;
@@ -37,14 +39,17 @@ pub fn arrange(table: &[u8], wanted: Wanted, rows: &mut [u32]) -> Answer
     if let Verdict::Faulty(f) = v {
         return Answer::Refused(f);
     }
-    list_asked(
-        table,
-        n,
-        class as usize,
-        lat,
-        lon,
-        first as usize,
-        last as usize,
-        rows,
-    )
+    let kind = class as usize;
+    let from = first as usize;
+    let to = last as usize;
+    let place = Place {
+        class: kind,
+        latitude: lat,
+        longitude: lon,
+    };
+    let channels = Channels {
+        first: from,
+        last: to,
+    };
+    list_asked(table, place, channels, rows)
 }

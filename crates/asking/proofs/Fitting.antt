@@ -1,23 +1,26 @@
 -- Every answer fits the buffer that a program lends for it, so that 22 cannot occur. Assumes nothing.
-use mathlib.Core.Path.{_≡_, refl, sym, ap, _∙_}
-use mathlib.Core.Bool.{Bool, true, false, cond, true≢false}
+use mathlib.Core.Path.{_≡_, refl, ap, _∙_}
+use mathlib.Core.Bool.{Bool, true, false, cond, and-false}
 use mathlib.Core.List.{List, [], _∷_, map, append-nil}
-use Prim.Native.Nat.{ℕ, zero, suc, _+_, _-_, _≤_, _<_}
+use Prim.Native.Nat.{ℕ, zero, suc, _+_, _-_, _*_, _%_, _≤_, _<_}
 use native.Mathlib.Decide.{ℕ-discrete}
 use native.Mathlib.Omega.{arith}
 use lib.Dec.{ltb, eqb}
-use lib.IntN.{ℤ}
 use lib.ListN.{length, drop, length-map}
-use borrow.Author.Tests.{ltb-true}
+use borrow.Author.Tests.{ltb-true, eq-eqb}
 use Rattle.ground.specs.Guard.{given}
 use Rattle.ground.specs.Lists.{span, each, keep}
-use Rattle.ground.specs.Rows.{Row, row, flat}
+use Rattle.ground.specs.Rows.{row, flat}
 use Rattle.ground.proofs.Guards.{and-was}
-use Rattle.ground.proofs.Spans.{length-span, each-single, keep-none}
+use Rattle.ground.proofs.Keeps.{length-keep}
+use Rattle.ground.proofs.Tests.{fails}
+use Rattle.ground.proofs.Spans.{length-span, keep-none}
 use Rattle.wire.specs.Be.{be}
 use Rattle.refusals.specs.declared.Refusal.{Refusal}
+use Rattle.part73.specs.Channels.{lowest, highest, channelCount, newChannels}
+use Rattle.part73.specs.TableA.{tableA}
 use Rattle.stations.specs.Version.{limit}
-use Rattle.stations.specs.Image.{judged, stationAt, stations, count}
+use Rattle.stations.specs.Image.{judged, stationAt, stations, count, Accepted}
 use Rattle.stations.specs.Encode.{encode}
 use Rattle.stations.specs.Lists.{movable}
 use Rattle.stations.specs.declared.Station.{Station}
@@ -28,20 +31,22 @@ use Rattle.stations.specs.declared.Verdict.the-variants.{Sound, Faulty}
 use Rattle.stations.proofs.Table.{whole, length-stations}
 use Rattle.stations.proofs.Back.{length-encode}
 use Rattle.stations.proofs.Fine.{fine-at}
-use Rattle.spacing.specs.Pair.{Assignment}
-use Rattle.survey.specs.Ways.{everyRecord, blocks}
+use Rattle.spacing.specs.Pair.{Assignment, sited}
+use Rattle.spacing.specs.declared.Place.{Place}
+use Rattle.survey.specs.Ways.{everyRecord, studied, near}
 use Rattle.desk.specs.Answers.{grant, deny, onTable, onAsked}
 use Rattle.desk.specs.Asked.{askedFault}
-use Rattle.nearby.specs.Positions.{shortPositions}
 use Rattle.checks.specs.Check.{asked, rowOf, shortRows, checkedFor}
 use Rattle.checks.proofs.Listing.{length-flat}
-use Rattle.planning.specs.Scene.{Scene, scene, clear, allowed}
+use Rattle.planning.specs.Scene.{Scene, scene, sceneOf, allowed}
 use Rattle.planning.proofs.Tallies.{Tally, nobody, lone, several, tally}
-use Rattle.arrangements.specs.Arrange.{moves, arranged, arrangements, arrangedFor}
-use Rattle.arrangements.specs.Meaning.{Clear}
-use Rattle.arrangements.proofs.Movers.{allowed-is, not-clear, not-allowed}
+use Rattle.arrangements.specs.Arrange.{placeAsked, asked as asked′, arranged as arranged′, arrangements, rowsFor, arrangedFor}
+use Rattle.arrangements.specs.Placed.{clear, movesOf, moves, arranged}
+use Rattle.arrangements.proofs.Asked.{accepted}
+use Rattle.arrangements.proofs.Movers.{Clear, clear-is, moves-of}
+use Rattle.arrangements.proofs.Positions.{arranged-at}
 use Rattle.changes.specs.Changes.{Change, add, withdraw, move, Decision, allow, refuse, entered, decide, written, changedFor}
-use Rattle.granting.proofs.Cuts.{length-insert, length-remove, length-rechannel}
+use Rattle.stations.proofs.Changed.{length-insert, length-without, length-rechannel}
 use Rattle.changes.proofs.Grants.{added, withdrawn, moved}
 use Rattle.asking.specs.Asking.{endsEarly, past, proposalOf, wantedOf, newcomerOf, checkInput, arrangeInput, addInput, withdrawInput, moveInput, changeInput}
 
@@ -62,20 +67,11 @@ granted-way k input j v xs vs e = granted-by (ltb (length input) k) j v xs vs e
 
 -- ---- how many are kept
 
-keep-most : (p : ℕ → Bool) (l : List ℕ) → length (keep p l) ≤ length l
-unfolding keep
-keep-most p [] = omega arith
-keep-most p (x ∷ xs) = go (p x) (keep-most p xs)
-  where
-    go : (b : Bool) → length (keep p xs) ≤ length xs → length (cond b (x ∷ keep p xs) (keep p xs)) ≤ suc (length xs)
-    go true h = omega arith
-    go false h = omega arith
-
 -- one is not
 keep-less : (p : ℕ → Bool) (n a k : ℕ) → a ≤ k → k < a + n → p k ≡ false → length (keep p (span a n)) < n
 unfolding keep span
 keep-less p zero a k lo hi e = absurd (omega arith)
-keep-less p (suc n) a k lo hi e = go (ℕ-discrete a k) (keep-most p (span (suc a) n)) (λ l. keep-less p n (suc a) k l (omega arith) e)
+keep-less p (suc n) a k lo hi e = go (ℕ-discrete a k) (length-keep p (span (suc a) n)) (λ l. keep-less p n (suc a) k l (omega arith) e)
   where
     more : (b : Bool) → length (keep p (span (suc a) n)) < n → length (cond b (a ∷ keep p (span (suc a) n)) (keep p (span (suc a) n))) < suc n
     more true h = omega arith
@@ -85,98 +81,85 @@ keep-less p (suc n) a k lo hi e = go (ℕ-discrete a k) (keep-most p (span (suc 
     go (yes q) h f = rw (ap p q ∙ e) (omega (arith, length-span n (suc a)))
     go (no ne) h f = more (p a) (f (omega arith))
 
--- ---- Check: three numbers for each of 2,000 stations
+-- ---- Check: three numbers for each station
 
-few-short : (s : List ℕ) (n : ℕ) (a : Assignment) → n ≤ 2000 → length (flat (shortRows everyRecord s n a)) ≤ 6000
-unfolding shortRows shortPositions
-few-short s n a h =
-    let rs = shortRows everyRecord s n a in
-    omega (arith, length-flat rs, length-map (shortPositions everyRecord s n a) (rowOf s a), keep-most (blocks everyRecord s a) (span 0 n), length-span n 0)
+few-short : (a : Assignment) (ss : List Station) → length ss ≤ limit → length (flat (shortRows tableA a ss)) ≤ 3 * limit
+unfolding shortRows
+few-short a ss h = omega (arith, length-flat (shortRows tableA a ss), length-map (keep (near tableA a) ss) (rowOf tableA a), length-keep (near tableA a) ss)
 
-pub check-fits : (input vs : List ℕ) → checkInput input ≡ grant vs → length vs ≤ 6000
-unfolding checkInput checkedFor limit
+-- no more are studied than there are
+few-studied : (s : List ℕ) (n : ℕ) → judged s ≡ Table n → length (studied (stations s)) ≤ limit
+unfolding studied
+few-studied s n e = let t = whole s n e in omega (arith, t .few, length-stations t, length-keep everyRecord (stations s))
+
+pub check-fits : (input vs : List ℕ) → checkInput input ≡ grant vs → length vs ≤ 3 * limit
+unfolding checkInput checkedFor
 check-fits input vs e =
     let s = drop 12 input in
     let p = proposalOf input in
     let v = askedFault (p .channel) (p .channel) (p .class) (p .zone) (p .latitude) (p .longitude) in
-    let xs = flat (shortRows everyRecord s (count s) (asked p)) in
+    let xs = flat (shortRows tableA (asked p) (studied (stations s))) in
     let w = granted-way 12 input (judged s) v xs vs e in
-    let t = whole s (w .0) (w .1) in
-    omega (arith, few-short s (count s) (asked p) (omega (arith, t .few, t .counted)), ap length (w .2))
+    omega (arith, few-short (asked p) (studied (stations s)) (few-studied s (w .0) (w .1)), ap length (w .2))
 
 -- ---- Arrange: three numbers for each of the 79 channels that one station may go to
 
 module _ (t : Scene) (c : ℕ) where
-  movesOf : ℕ → List Row
-  movesOf i = map (λ m. row c (t .id i) m) (keep (allowed t c i) (span 221 80))
-
   -- not to its own channel
   own : (i : ℕ) → allowed t c i (t .channel i) ≡ false
-  own i = go (allowed t c i (t .channel i)) refl
-    where
-      go : (b : Bool) → allowed t c i (t .channel i) ≡ b → allowed t c i (t .channel i) ≡ false
-      go true e = absurd (allowed-is t c i (t .channel i) .0 e .other refl)
-      go false e = e
+  unfolding allowed
+  own i = rw (eq-eqb (t .channel i) (t .channel i) refl) (and-false (t .movable i))
 
   fixed : (i m : ℕ) → t .movable i ≡ false → allowed t c i m ≡ false
-  fixed i m e = go (allowed t c i m) refl
-    where
-      go : (b : Bool) → allowed t c i m ≡ b → allowed t c i m ≡ false
-      go true q = absurd (true≢false (sym (allowed-is t c i m .0 q .movable) ∙ e))
-      go false q = q
+  unfolding allowed
+  fixed i m e = rw e
 
-  few-moves : (i : ℕ) → (t .movable i ≡ true → (221 ≤ t .channel i) × (t .channel i ≤ 300)) → length (movesOf i) ≤ 79
+  few-moves : (i : ℕ) → (t .movable i ≡ true → (lowest ≤ t .channel i) × (t .channel i ≤ highest)) → length (movesOf t c i) ≤ 79
   unfolding movesOf
   few-moves i band = go (t .movable i) refl
     where
-      same : length (map (λ m. row c (t .id i) m) (keep (allowed t c i) (span 221 80))) ≡ length (keep (allowed t c i) (span 221 80))
-      same = length-map (keep (allowed t c i) (span 221 80)) (λ m. row c (t .id i) m)
+      same : length (map (λ m. row c (t .id i) m) (keep (allowed t c i) newChannels)) ≡ length (keep (allowed t c i) newChannels)
+      same = length-map (keep (allowed t c i) newChannels) (λ m. row c (t .id i) m)
 
-      go : (b : Bool) → t .movable i ≡ b → length (map (λ m. row c (t .id i) m) (keep (allowed t c i) (span 221 80))) ≤ 79
-      go true e = omega (arith, same, keep-less (allowed t c i) 80 221 (t .channel i) (band e .0) (omega (arith, band e .1)) (own i))
-      go false e = omega (arith, same, ap length (keep-none (allowed t c i) (span 221 80) (λ m. fixed i m e)))
+      go : (b : Bool) → t .movable i ≡ b → length (map (λ m. row c (t .id i) m) (keep (allowed t c i) newChannels)) ≤ 79
+      go true e = omega (arith, same, keep-less (allowed t c i) channelCount lowest (t .channel i) (band e .0) (omega (arith, band e .1)) (own i))
+      go false e = omega (arith, same, ap length (keep-none (allowed t c i) newChannels (λ m. fixed i m e)))
 
   -- a blocked channel has the moves of its first blocker alone
-  of-one : (a : ℕ) → a < t .size → t .new c a ≡ true → (Clear t c → ⊥) → moves t c ≡ movesOf a
-  unfolding moves movesOf
-  of-one a h q blocked =
-      each-single (λ i. map (λ m. row c (t .id i) m) (keep (allowed t c i) (span 221 80))) (t .size) 0 a (omega arith) (omega arith)
-      (λ i lo hi ne. ap (map (λ m. row c (t .id i) m)) (keep-none (allowed t c i) (span 221 80) (λ m. not-allowed t c i m blocked (λ l. ne (sym (l .alone a h q))))))
-
-  few-rows : ((i : ℕ) → i < t .size → t .movable i ≡ true → (221 ≤ t .channel i) × (t .channel i ≤ 300)) → length (arranged t c) ≤ 79
+  few-rows : ((i : ℕ) → i < t .size → t .movable i ≡ true → (lowest ≤ t .channel i) × (t .channel i ≤ highest)) → length (arranged t c) ≤ 79
   unfolding arranged
   few-rows band = go (clear t c) refl (tally (t .new c) (t .size))
     where
       one : (a : ℕ) → a < t .size → t .new c a ≡ true → (Clear t c → ⊥) → length (moves t c) ≤ 79
-      one a h q blocked = omega (arith, ap length (of-one a h q blocked), few-moves a (band a h))
+      one a h q blocked = omega (arith, ap length (moves-of t c a h q blocked), few-moves a (band a h))
 
       go : (b : Bool) → clear t c ≡ b → {v : ℕ} → Tally (t .new c) (t .size) v → length (cond b (row c 0 0 ∷ []) (moves t c)) ≤ 79
       go true e w = omega arith
-      go false e (nobody f) = absurd (not-clear t c e (λ j h. f .passed j (omega arith) h))
-      go false e (lone a l f g) = one a l (f .hit l) (not-clear t c e)
-      go false e (several a b l f g h) = one a l (f .hit l) (not-clear t c e)
+      go false e (nobody f) = absurd (fails (clear-is t c) e (λ j h. f .passed j (omega arith) h))
+      go false e (lone a l f g) = one a l (f .hit l) (fails (clear-is t c) e)
+      go false e (several a b l f g h) = one a l (f .hit l) (fails (clear-is t c) e)
 
 -- one new channel, asked for alone
-pub one-channel : (t : Scene) (c : ℕ) → arrangements t c c ≡ arranged t c
+pub one-channel : (km : ℕ → ℕ → ℕ → ℕ) (new : ℕ → Assignment) (ss : List Station) (c : ℕ) → arrangements km new ss c c ≡ arranged′ km new ss c
 unfolding arrangements span each
-one-channel t c =
+one-channel km new ss c =
     let e : suc c - c ≡ 1 = omega arith in
-    ap (λ (n : ℕ). each (arranged t) (span c n)) e ∙ append-nil (arranged t c)
+    ap (λ (n : ℕ). each (arranged′ km new ss) (span c n)) e ∙ append-nil (arranged′ km new ss c)
 
 -- a movable station is on one of 221 to 300
-in-band : (s : List ℕ) (n class : ℕ) (lat lon : ℤ) → judged s ≡ Table n → let t = scene everyRecord s n class lat lon in (i : ℕ) → i < n → t .movable i ≡ true → (221 ≤ t .channel i) × (t .channel i ≤ 300)
+in-band : (s : List ℕ) (p : Place) → Accepted s → (i : ℕ) → i < count s → sceneOf s p .movable i ≡ true → (lowest ≤ sceneOf s p .channel i) × (sceneOf s p .channel i ≤ highest)
 unfolding scene movable
-in-band s n class lat lon e i h q =
+in-band s p e i h q =
     let r = stationAt s i in
-    let a = and-was (eqb (r .flags) 0) (ltb 220 (r .channel)) q in
+    let a = and-was (eqb (r .flags % 2) 0) (ltb 220 (r .channel)) q in
     let b = ltb-true 220 (r .channel) (a .1) in
-    (omega arith, fine-at s n e i h .1 .high)
+    (omega arith, fine-at s (count s) e i h .high)
 
-few-arranged : (s : List ℕ) (n class : ℕ) (lat lon : ℤ) (c : ℕ) → judged s ≡ Table n → length (flat (arrangements (scene everyRecord s n class lat lon) c c)) ≤ 237
-unfolding scene
-few-arranged s n class lat lon c e =
-    let t = scene everyRecord s n class lat lon in
-    omega (arith, length-flat (arrangements t c c), ap length (one-channel t c), few-rows t c (in-band s n class lat lon e))
+few-arranged : (s : List ℕ) (p : Place) (c : ℕ) → Accepted s → length (rowsFor s (sited p) c c) ≤ 237
+unfolding studied scene
+few-arranged s p c e =
+    let ss = keep everyRecord (stations s) in
+    omega (arith, length-flat (arrangements tableA (sited p) ss c c), ap length (one-channel tableA (sited p) ss c ∙ arranged-at tableA everyRecord s e (sited p) c), few-rows (sceneOf s p) c (in-band s p e))
 
 pub arrange-fits : (channel : ℕ) (input vs : List ℕ) → arrangeInput channel input ≡ grant vs → length vs ≤ 237
 unfolding arrangeInput arrangedFor
@@ -184,12 +167,10 @@ arrange-fits channel input vs e =
     let s = drop 10 input in
     let q = wantedOf channel input in
     let v = askedFault channel channel (q .class) (q .zone) (q .latitude) (q .longitude) in
-    let xs = flat (arrangements (scene everyRecord s (count s) (q .class) (q .latitude) (q .longitude)) channel channel) in
-    let w = granted-way 10 input (judged s) v xs vs e in
-    let t = whole s (w .0) (w .1) in
-    omega (arith, few-arranged s (count s) (q .class) (q .latitude) (q .longitude) channel (w .1 ∙ ap Table (sym (t .counted))), ap length (w .2))
+    let w = granted-way 10 input (judged s) v (rowsFor s (asked′ q) channel channel) vs e in
+    omega (arith, few-arranged s (placeAsked q) channel (accepted s (w .1)), ap length (w .2))
 
--- ---- Add, Withdraw, Move: the image of at most 2,000 stations
+-- ---- Add, Withdraw, Move: the image of no more stations than a table may have
 
 few-left : (ss : List Station) (c : Change) (rs : List Station) → length ss ≤ limit → decide ss c ≡ allow rs → length rs ≤ limit
 few-left ss (add w) rs h e =
@@ -197,40 +178,40 @@ few-left ss (add w) rs h e =
     omega (arith, a .passes .room, ap length (a .is), length-insert (entered w) ss)
 few-left ss (withdraw id) rs h e =
     let a = withdrawn ss id rs e in
-    omega (arith, ap length (a .is), length-remove id ss (a .present))
+    omega (arith, ap length (a .is), length-without id ss)
 few-left ss (move id channel) rs h e =
     let a = moved ss id channel rs e in
     omega (arith, ap length (a .is), length-rechannel id channel ss)
 
-changed-fits : (s : List ℕ) (c : Change) (vs : List ℕ) → changedFor s c ≡ grant vs → length vs ≤ 32008
-unfolding changedFor limit
+changed-fits : (s : List ℕ) (c : Change) (vs : List ℕ) → changedFor s c ≡ grant vs → length vs ≤ 8 + 16 * limit
+unfolding changedFor
 changed-fits s c vs e = on (judged s) refl e
   where
-    of : (d : Decision) → decide (stations s) c ≡ d → length (stations s) ≤ limit → written d ≡ grant vs → length vs ≤ 32008
+    of : (d : Decision) → decide (stations s) c ≡ d → length (stations s) ≤ limit → written d ≡ grant vs → length vs ≤ 8 + 16 * limit
     of (refuse f) q h w = absurd (never f vs w)
     of (allow rs) q h w =
         let same : encode rs ≡ vs = cc in
         omega (arith, ap length same, length-encode rs, few-left (stations s) c rs h q)
 
-    on : (j : Judged) → judged s ≡ j → onTable j (written (decide (stations s) c)) ≡ grant vs → length vs ≤ 32008
+    on : (j : Judged) → judged s ≡ j → onTable j (written (decide (stations s) c)) ≡ grant vs → length vs ≤ 8 + 16 * limit
     on (Refused′ f) q w = absurd (never f vs w)
     on (Table n) q w =
         let t = whole s n q in
         of (decide (stations s) c) refl (omega (arith, t .few, length-stations t)) w
 
-past-fits : (k : ℕ) (input : List ℕ) (c : Change) (vs : List ℕ) → past k input (changedFor (drop k input) c) ≡ grant vs → length vs ≤ 32008
+past-fits : (k : ℕ) (input : List ℕ) (c : Change) (vs : List ℕ) → past k input (changedFor (drop k input) c) ≡ grant vs → length vs ≤ 8 + 16 * limit
 unfolding past given
 past-fits k input c vs e = go (ltb (length input) k) e
   where
-    go : (b : Bool) → cond b endsEarly (changedFor (drop k input) c) ≡ grant vs → length vs ≤ 32008
+    go : (b : Bool) → cond b endsEarly (changedFor (drop k input) c) ≡ grant vs → length vs ≤ 8 + 16 * limit
     go true q = absurd (never _ vs q)
     go false q = changed-fits (drop k input) c vs q
 
-pub change-fits : (input vs : List ℕ) → changeInput input ≡ grant vs → length vs ≤ 32008
+pub change-fits : (input vs : List ℕ) → changeInput input ≡ grant vs → length vs ≤ 8 + 16 * limit
 unfolding changeInput addInput withdrawInput moveInput given
 change-fits input vs e = go (eqb (be 1 input 0) 97) (eqb (be 1 input 0) 119) (eqb (be 1 input 0) 109) e
   where
-    go : (a w m : Bool) → cond a (past 17 input (changedFor (drop 17 input) (add (newcomerOf input)))) (cond w (past 5 input (changedFor (drop 5 input) (withdraw (be 4 input 1)))) (cond m (past 7 input (changedFor (drop 7 input) (move (be 4 input 1) (be 2 input 5)))) endsEarly)) ≡ grant vs → length vs ≤ 32008
+    go : (a w m : Bool) → cond a (past 17 input (changedFor (drop 17 input) (add (newcomerOf input)))) (cond w (past 5 input (changedFor (drop 5 input) (withdraw (be 4 input 1)))) (cond m (past 7 input (changedFor (drop 7 input) (move (be 4 input 1) (be 2 input 5)))) endsEarly)) ≡ grant vs → length vs ≤ 8 + 16 * limit
     go true w m q = past-fits 17 input _ vs q
     go false true m q = past-fits 5 input _ vs q
     go false false true q = past-fits 7 input _ vs q

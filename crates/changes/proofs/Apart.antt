@@ -1,38 +1,37 @@
 -- Past the other refusals Add and Move are granted exactly when the station is short to no other record; 20 gives the first
 -- that it is short to. Assumes nothing.
-use mathlib.Core.Path.{_≡_, refl, sym, _∙_}
+use mathlib.Core.Path.{_≡_, sym, _∙_}
 use mathlib.Core.Bool.{true, false, not}
 use mathlib.Core.Logic.{_↔_}
-use mathlib.Core.List.{List, [], _∷_}
+use mathlib.Core.List.{List, _∷_}
 use Prim.Native.Nat.{ℕ, _+_, _≤_, _<_}
 use native.Mathlib.Numerals.{add-one}
 use native.Mathlib.Omega.{arith}
-use lib.Dec.{leb, eqb}
+use native.Mathlib.Decide.{ℕ-discrete}
+use lib.Dec.{leb}
 use lib.ListN.{length, drop, getD}
 use lib.Seq.{drop-cons}
-use borrow.Author.Tests.{ltb-true, ne-eqb, eq-eqb, eqb-true, eqb-false, not-true}
+use borrow.Author.Tests.{ltb-true, ne-eqb, eq-eqb, eqb-false, not-true}
 use Rattle.ground.specs.Guard.{given}
-use Rattle.ground.specs.Lists.{some, first}
-use Rattle.ground.proofs.Guards.{guards, past as beyond, taken, or-was, and-was}
+use Rattle.ground.specs.Lists.{_∈_, some, first}
+use Rattle.ground.proofs.Guards.{guards, past, taken, and-was}
+use Rattle.ground.proofs.Cases.{either}
+use Rattle.ground.proofs.Positions.{none-in}
 use Rattle.ground.proofs.Firsts.{first-found, first-past, some-first}
 use Rattle.refusals.specs.declared.Refusal.{Refusal}
 use Rattle.refusals.specs.Faults.{Fault, refusal, AskedChannel, IdZero, IdPresent, Short, TableFull, IdAbsent, NotMovable}
 use Rattle.stations.specs.Version.{limit}
-use Rattle.stations.specs.Lists.{hasId}
+use Rattle.stations.specs.Lists.{hasId, onto, insert, without, rechannel, Apart}
 use Rattle.stations.specs.declared.Station.{Station}
 use Rattle.stations.specs.declared.Verdict.{Verdict}
 use Rattle.stations.specs.declared.Verdict.the-variants.{Sound, Faulty}
-use Rattle.stations.proofs.Fine.{Good}
-use Rattle.stations.proofs.Places.{good-absent}
+use Rattle.stations.proofs.Ids.{Ascends, with-one, with-found, one-id}
+use Rattle.stations.proofs.Changed.{without-none, in-without}
 use Rattle.desk.specs.Asked.{placeFault, askedFault}
-use Rattle.granting.specs.Lists.{insert, remove, onto, rechannel}
-use Rattle.changes.specs.Lists.{Holds, Apart}
 use Rattle.finding.specs.Conflicts.{shortTo, conflicts}
-use Rattle.changes.specs.Changes.{add, move, Decision, allow, refuse, not-for, past, entered, decide}
+use Rattle.changes.specs.Changes.{add, move, Decision, allow, refuse, not-for, onVerdict, entered, decide}
 use Rattle.changes.specs.declared.Newcomer.{Newcomer}
-use Rattle.changes.proofs.Cases.{either}
-use Rattle.changes.proofs.Held.{find-held, one-held}
-use Rattle.changes.proofs.Grants.{denied, found, askedOf, AddPasses, added, MovePasses, moved}
+use Rattle.changes.proofs.Grants.{denied, askedOf, AddPasses, added, MovePasses, moved}
 
 -- ---- no other record conflicts
 
@@ -51,32 +50,22 @@ module _ (r x : Station) where
   unfolding conflicts
   conflicts-own e = rw (eq-eqb (x .id) (r .id) e)
 
+-- nobody stands in the way exactly when the station is apart from all that have another id
+clear-others : (r : Station) (ss : List Station) → (some (conflicts r) ss ≡ false) ↔ Apart shortTo r (without (r .id) ss)
+unfolding Apart
+clear-others r ss =
+    let k = none-in (conflicts r) ss in (
+      λ e x m. let o = in-without (r .id) ss .0 m in sym (conflicts-other r x (o .1)) ∙ k .0 e x (o .0),
+      λ a. k .1 (λ x m. go x (ℕ-discrete (x .id) (r .id)) (λ ne. a x (in-without (r .id) ss .1 (m, ne)))),
+    )
+  where
+    go : (x : Station) → Dec (x .id ≡ r .id) → ((x .id ≡ r .id → ⊥) → shortTo r x ≡ false) → conflicts r x ≡ false
+    go x (yes e) a = conflicts-own r x e
+    go x (no ne) a = conflicts-other r x ne ∙ a ne
+
 -- of a list without the id
 clear-new : (r : Station) (ss : List Station) → some (hasId (r .id)) ss ≡ false → (some (conflicts r) ss ≡ false) ↔ Apart shortTo r ss
-unfolding some Apart
-clear-new r [] n = (λ _. tt, λ _. refl)
-clear-new r (x ∷ xs) n =
-    let w = or-was (eqb (x .id) (r .id)) (some (hasId (r .id)) xs) n in
-    let more = clear-new r xs (w .1) in
-    rw (conflicts-other r x (eqb-false (x .id) (r .id) (w .0))) (
-      λ e. let v = or-was (shortTo r x) (some (conflicts r) xs) e in (v .0, more .0 (v .1)),
-      λ a. rw (a .0, more .1 (a .1)),
-    )
-
--- of a list in which the station's own id may stand
-clear-others : (t last : ℕ) (r : Station) (ss : List Station) → Good t last ss → (some (conflicts r) ss ≡ false) ↔ Apart shortTo r (remove (r .id) ss)
-unfolding some Apart remove
-clear-others t last r [] g = (λ _. tt, λ _. refl)
-clear-others t last r (x ∷ xs) g =
-    let more = clear-others t (x .id) r xs (g .1) in
-    either (λ (l : List Station). (some (conflicts r) (x ∷ xs) ≡ false) ↔ Apart shortTo r l) (eqb (x .id) (r .id)) xs (x ∷ remove (r .id) xs)
-    (λ h.
-    let q = eqb-true (x .id) (r .id) h in
-    rw (conflicts-own r x q) (clear-new r xs (good-absent xs t (x .id) (r .id) (g .1) (omega arith))))
-    (λ h. rw (conflicts-other r x (eqb-false (x .id) (r .id) h)) (
-      λ e. let v = or-was (shortTo r x) (some (conflicts r) xs) e in (v .0, more .0 (v .1)),
-      λ a. rw (a .0, more .1 (a .1)),
-    ))
+clear-new r ss n = rw (without-none (r .id) ss n) at (clear-others r ss)
 
 -- ---- granted exactly when there is none
 
@@ -95,9 +84,9 @@ add-exactly ss w p =
 pub add-apart : (ss : List Station) (w : Newcomer) (rs : List Station) → decide ss (add w) ≡ allow rs → Apart shortTo (entered w) ss
 add-apart ss w rs e = let a = added ss w rs e in clear-new (entered w) ss (a .passes .new) .0 (a .clear)
 
-module _ (t : ℕ) (ss : List Station) (g : Good t 0 ss) (id channel : ℕ) where
-  clear-moved : (x : Station) → x .id ≡ id → (some (conflicts (onto channel x)) ss ≡ false) ↔ Apart shortTo (onto channel x) (remove id ss)
-  clear-moved x own = rw (← own) (clear-others t 0 (onto channel x) ss g)
+module _ (ss : List Station) (g : Ascends ss) (id channel : ℕ) where
+  clear-moved : (x : Station) → x .id ≡ id → (some (conflicts (onto channel x)) ss ≡ false) ↔ Apart shortTo (onto channel x) (without id ss)
+  clear-moved x own = rw (← own) (clear-others (onto channel x) ss)
 
   move-granted : (x : Station) → MovePasses ss id channel x → some (conflicts (onto channel x)) ss ≡ false → decide ss (move id channel) ≡ allow (rechannel id channel ss)
   unfolding decide
@@ -105,18 +94,18 @@ module _ (t : ℕ) (ss : List Station) (g : Good t 0 ss) (id channel : ℕ) wher
       let low = p .low in
       let high = p .high in
       let free = p .free in
-      rw (find-held t 0 id x ss _ _ g (p .own) (p .held)) (sym (search guards depth 12))
+      rw (with-one id _ _ x ss g (p .own) (p .held)) (sym (search guards depth 12))
 
   -- a granted station is apart from every other record
-  pub move-apart : (rs : List Station) → decide ss (move id channel) ≡ allow rs → (x : Station) × MovePasses ss id channel x × Apart shortTo (onto channel x) (remove id ss)
+  pub move-apart : (rs : List Station) → decide ss (move id channel) ≡ allow rs → (x : Station) × MovePasses ss id channel x × Apart shortTo (onto channel x) (without id ss)
   move-apart rs e = let a = moved ss id channel rs e in (a .from, a .passes, clear-moved (a .from) (a .passes .own) .0 (a .clear))
 
-  pub move-exactly : (x : Station) → MovePasses ss id channel x → (decide ss (move id channel) ≡ allow (rechannel id channel ss)) ↔ Apart shortTo (onto channel x) (remove id ss)
+  pub move-exactly : (x : Station) → MovePasses ss id channel x → (decide ss (move id channel) ≡ allow (rechannel id channel ss)) ↔ Apart shortTo (onto channel x) (without id ss)
   move-exactly x p =
       let k = clear-moved x (p .own) in (
         λ e.
             let m = move-apart _ e in
-            let q = one-held t 0 id (m .0) x ss g (m .1 .own) (p .own) (m .1 .held) (p .held) in
+            let q = one-id id (m .0) x ss g (m .1 .own) (p .own) (m .1 .held) (p .held) in
             rw q at (m .2),
         λ a. move-granted x p (k .1 a),
       )
@@ -172,7 +161,7 @@ asked-low w =
     (λ _. either Low _ _ _ (λ _. omega arith)
     (λ _. either Low _ _ _ (λ _. omega arith) (λ _. tt)))))
 
-passed-low : (v : Verdict) (d : Decision) (f : Refusal) → Low v → 18 ≤ f .number → past v d ≡ refuse f → d ≡ refuse f
+passed-low : (v : Verdict) (d : Decision) (f : Refusal) → Low v → 18 ≤ f .number → onVerdict v d ≡ refuse f → d ≡ refuse f
 passed-low Sound d f l h e = e
 passed-low (Faulty g) d f l h e = absurd (omega (arith, numbers e))
 
@@ -185,19 +174,19 @@ pub add-short : (ss : List Station) (w : Newcomer) (i : ℕ) → decide ss (add 
 unfolding decide
 add-short ss w i e =
     let v = passed-low (askedOf w) _ (refusal (Short i)) (asked-low w) (omega arith) e in
-    let a = beyond _ _ _ _ v (unlike IdZero (Short i) (λ z. omega arith)) in
-    let b = beyond _ _ _ _ (a .1) (unlike (IdPresent (first (hasId (w .id)) ss)) (Short i) (λ z. omega arith)) in
+    let a = past _ _ _ _ v (unlike IdZero (Short i) (λ z. omega arith)) in
+    let b = past _ _ _ _ (a .1) (unlike (IdPresent (first (hasId (w .id)) ss)) (Short i) (λ z. omega arith)) in
     let full : given (leb limit (length ss)) (not-for TableFull) (allow (insert (entered w) ss)) ≡ not-for (Short i) → ⊥ =
     either (λ (d : Decision). d ≡ not-for (Short i) → ⊥) _ _ _ (λ _. unlike TableFull (Short i) (λ z. omega arith)) (λ _. granted _ _) in
     let c = taken _ _ _ _ (b .1) full in
     first-short (entered w) ss i (c .0) (extras (c .1))
 
 -- 20 of Move
-pub move-short : (ss : List Station) (id channel i : ℕ) → decide ss (move id channel) ≡ not-for (Short i) → (x : Station) × (x .id ≡ id) × Holds x ss × FirstShort (onto channel x) ss i
+pub move-short : (ss : List Station) (id channel i : ℕ) → decide ss (move id channel) ≡ not-for (Short i) → (x : Station) × (x .id ≡ id) × (x ∈ ss) × FirstShort (onto channel x) ss i
 unfolding decide
 move-short ss id channel i e =
-    let a = beyond _ _ _ _ e (unlike AskedChannel (Short i) (λ z. omega arith)) in
-    let f = found id ss _ _ (not-for (Short i)) (a .1) (unlike IdAbsent (Short i) (λ z. omega arith)) in
-    let b = beyond _ _ _ _ (f .3) (unlike (NotMovable (first (hasId id) ss)) (Short i) (λ z. omega arith)) in
+    let a = past _ _ _ _ e (unlike AskedChannel (Short i) (λ z. omega arith)) in
+    let f = with-found id _ _ ss (not-for (Short i)) (a .1) (unlike IdAbsent (Short i) (λ z. omega arith)) in
+    let b = past _ _ _ _ (f .3) (unlike (NotMovable (first (hasId id) ss)) (Short i) (λ z. omega arith)) in
     let c = taken _ _ _ _ (b .1) (granted _ _) in
     (f .0, f .1, f .2, first-short (onto channel (f .0)) ss i (c .0) (extras (c .1)))

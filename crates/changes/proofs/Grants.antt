@@ -1,28 +1,25 @@
 -- What a granted change tells: the list that is granted, and every test that it passed. Assumes nothing.
 use mathlib.Core.Path.{_≡_, refl, sym}
 use mathlib.Core.Bool.{true, false}
-use mathlib.Core.Logic.{_⊎_, inl, inr}
-use mathlib.Core.List.{List, [], _∷_}
+use mathlib.Core.List.{List}
 use Prim.Native.Nat.{ℕ, _≤_, _<_}
 use native.Mathlib.Omega.{arith}
-use lib.Dec.{ltb, eqb}
+use lib.Dec.{ltb}
 use lib.ListN.{length}
-use borrow.Author.Tests.{ltb-false, leb-false, eqb-true, eqb-false}
-use Rattle.ground.specs.Lists.{some}
-use Rattle.ground.proofs.Guards.{past as beyond, not-was, or-was}
+use borrow.Author.Tests.{ltb-false, leb-false, eqb-false}
+use Rattle.ground.specs.Lists.{_∈_, some}
+use Rattle.ground.proofs.Guards.{past, not-was, or-was}
 use Rattle.refusals.specs.declared.Refusal.{Refusal}
 use Rattle.stations.specs.Version.{limit}
-use Rattle.stations.specs.Lists.{hasId, movable}
+use Rattle.stations.specs.Lists.{hasId, movable, onto, insert, without, rechannel}
 use Rattle.stations.specs.declared.Station.{Station}
 use Rattle.stations.specs.declared.Verdict.{Verdict}
 use Rattle.stations.specs.declared.Verdict.the-variants.{Sound, Faulty}
+use Rattle.stations.proofs.Ids.{with-found}
 use Rattle.desk.specs.Asked.{askedFault}
-use Rattle.granting.specs.Lists.{insert, remove, onto, rechannel}
-use Rattle.changes.specs.Lists.{find, Holds}
 use Rattle.finding.specs.Conflicts.{conflicts}
-use Rattle.changes.specs.Changes.{Change, add, withdraw, move, Decision, allow, refuse, past, entered, decide}
+use Rattle.changes.specs.Changes.{Change, add, withdraw, move, Decision, allow, refuse, onVerdict, entered, decide}
 use Rattle.changes.specs.declared.Newcomer.{Newcomer}
-use Rattle.changes.proofs.Cases.{either}
 
 -- the id that a change names
 abbrev pub named : Change → ℕ
@@ -37,18 +34,9 @@ same : {rs ss : List Station} → allow rs ≡ allow ss → rs ≡ ss
 same e = cc
 
 -- what was asked for was in order
-passed : (v : Verdict) (d : Decision) (rs : List Station) → past v d ≡ allow rs → (v ≡ Sound) × (d ≡ allow rs)
+passed : (v : Verdict) (d : Decision) (rs : List Station) → onVerdict v d ≡ allow rs → (v ≡ Sound) × (d ≡ allow rs)
 passed Sound d rs e = (refl, e)
 passed (Faulty f) d rs e = absurd (denied f rs e)
-
--- the record that was found, since what is said of there being none is not what came out
-pub found : {A : Type 0} (id : ℕ) (ss : List Station) (none : A) (one : Station → A) (z : A) → find id ss none one ≡ z → (none ≡ z → ⊥) → (x : Station) × (x .id ≡ id) × Holds x ss × (one x ≡ z)
-unfolding find Holds
-found id [] none one z e out = absurd (out e)
-found {A} id (x ∷ xs) none one z e out =
-    let more = found id xs none one z in
-    either (λ (a : A). a ≡ z → (y : Station) × (y .id ≡ id) × ((y ≡ x) ⊎ Holds y xs) × (one y ≡ z)) (eqb (x .id) id) (one x) (find id xs none one)
-    (λ h f. (x, eqb-true (x .id) id h, inl refl, f)) (λ h f. let m = more f out in (m .0, m .1, inr (m .2), m .3)) e
 
 -- ---- Add
 
@@ -72,10 +60,10 @@ pub added : (ss : List Station) (w : Newcomer) (rs : List Station) → decide ss
 unfolding decide
 added ss w rs e =
     let v = passed _ _ rs e in
-    let a = beyond _ _ _ _ (v .1) (denied _ rs) in
-    let b = beyond _ _ _ _ (a .1) (denied _ rs) in
-    let c = beyond _ _ _ _ (b .1) (denied _ rs) in
-    let d = beyond _ _ _ _ (c .1) (denied _ rs) in
+    let a = past _ _ _ _ (v .1) (denied _ rs) in
+    let b = past _ _ _ _ (a .1) (denied _ rs) in
+    let c = past _ _ _ _ (b .1) (denied _ rs) in
+    let d = past _ _ _ _ (c .1) (denied _ rs) in
     let zero : w .id ≡ 0 → ⊥ = eqb-false (w .id) 0 (a .0) in
     record {
       is = sym (same (d .1));
@@ -86,13 +74,13 @@ added ss w rs e =
 -- ---- Withdraw
 
 pub record Withdrawn (ss : List Station) (id : ℕ) (rs : List Station) : Type 0 where
-  pub is : rs ≡ remove id ss
+  pub is : rs ≡ without id ss
   pub present : some (hasId id) ss ≡ true
 
 pub withdrawn : (ss : List Station) (id : ℕ) (rs : List Station) → decide ss (withdraw id) ≡ allow rs → Withdrawn ss id rs
 unfolding decide
 withdrawn ss id rs e =
-    let a = beyond _ _ _ _ e (denied _ rs) in
+    let a = past _ _ _ _ e (denied _ rs) in
     record { is = sym (same (a .1)); present = not-was _ (a .0) }
 
 -- ---- Move
@@ -102,7 +90,7 @@ pub record MovePasses (ss : List Station) (id channel : ℕ) (from : Station) : 
   pub low : 221 ≤ channel
   pub high : channel ≤ 300
   pub own : from .id ≡ id
-  pub held : Holds from ss
+  pub held : from ∈ ss
   pub free : movable from ≡ true
 
 pub record Moved (ss : List Station) (id channel : ℕ) (rs : List Station) : Type 0 where
@@ -114,11 +102,11 @@ pub record Moved (ss : List Station) (id channel : ℕ) (rs : List Station) : Ty
 pub moved : (ss : List Station) (id channel : ℕ) (rs : List Station) → decide ss (move id channel) ≡ allow rs → Moved ss id channel rs
 unfolding decide
 moved ss id channel rs e =
-    let a = beyond _ _ _ _ e (denied _ rs) in
+    let a = past _ _ _ _ e (denied _ rs) in
     let w = or-was (ltb channel 221) (ltb 300 channel) (a .0) in
-    let f = found id ss _ _ (allow rs) (a .1) (denied _ rs) in
-    let b = beyond _ _ _ _ (f .3) (denied _ rs) in
-    let c = beyond _ _ _ _ (b .1) (denied _ rs) in
+    let f = with-found id _ _ ss (allow rs) (a .1) (denied _ rs) in
+    let b = past _ _ _ _ (f .3) (denied _ rs) in
+    let c = past _ _ _ _ (b .1) (denied _ rs) in
     record {
       is = sym (same (c .1));
       from = f .0;

@@ -1,5 +1,3 @@
-pub mod Cases
-pub mod Held
 pub mod Grants
 pub mod Valid
 pub mod Kept

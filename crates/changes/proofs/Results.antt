@@ -10,19 +10,21 @@ use lib.ListN.{length, drop}
 use Rattle.ground.specs.Guard.{given}
 use Rattle.refusals.specs.declared.Refusal.{Refusal}
 use Rattle.refusals.specs.Faults.{refusal, DoesNotFit}
-use Rattle.stations.specs.Image.{stations, judged}
+use Rattle.wire.proofs.Width.{Bytes}
+use Rattle.stations.specs.Image.{stations, count, judged, Accepted}
 use Rattle.stations.specs.Encode.{encode}
 use Rattle.stations.specs.declared.Station.{Station}
 use Rattle.stations.specs.declared.Judged.{Judged}
 use Rattle.stations.specs.declared.Judged.the-variants.{Table, Refused as Refused′}
-use Rattle.stations.proofs.Back.{SmallIds}
+use Rattle.stations.proofs.Stages.{is-accepted}
 use Rattle.desk.specs.Answers.{grant, onTable, Answered}
 use Rattle.desk.specs.declared.Answer.{Answer}
 use Rattle.desk.specs.declared.Answer.the-variants.{Granted, Refused}
 use Rattle.desk.proofs.Answers.{one-answer}
 use Rattle.changes.specs.Changes.{Change, Decision, allow, refuse, decide, written, changedFor}
 use Rattle.changes.proofs.Grants.{named}
-use Rattle.changes.proofs.Valid.{valid-table, granted-image}
+use Rattle.stations.proofs.Parts.{valid-table}
+use Rattle.changes.proofs.Valid.{granted-image}
 
 -- two results that meet the promise for the same inputs are equal
 pub one-result : (s : List ℕ) (c : Change) {entry exit exit′ : List ℕ} {r r′ : Answer} → Answered (changedFor s c) entry exit r → Answered (changedFor s c) entry exit′ r′ → (exit ≡ exit′) × (r ≡ r′)
@@ -30,8 +32,7 @@ one-result s c a b = one-answer a b
 
 -- a granted result: the table was accepted, and the buffer holds the image of the granted list from its start
 pub record Left (s : List ℕ) (c : Change) (entry exit : List ℕ) (n : ℕ) : Type 0 where
-  pub count : ℕ
-  pub accepted : judged s ≡ Table count
+  pub accepted : Accepted s
   pub list : List Station
   pub allowed : decide (stations s) c ≡ allow list
   pub long : n ≡ length (encode list)
@@ -59,11 +60,11 @@ unfolding changedFor
 granted-result s c entry exit n a = by-judged (judged s) (decide (stations s) c) refl refl a
   where
     by-judged : (j : Judged) (d : Decision) → judged s ≡ j → decide (stations s) c ≡ d → Answered (onTable j (written d)) entry exit (Granted n) → Left s c entry exit n
-    by-judged (Table m) (allow rs) e f a = let k = fitted (encode rs) entry exit n a in record { count = m; accepted = e; list = rs; allowed = f; long = k .0; holds = k .1 }
+    by-judged (Table m) (allow rs) e f a = let k = fitted (encode rs) entry exit n a in record { accepted = is-accepted s m e; list = rs; allowed = f; long = k .0; holds = k .1 }
     by-judged (Table m) (refuse g) e f a = absurd (refused g n (a .said))
     by-judged (Refused′ g) d e f a = absurd (refused g n (a .said))
 
 -- so the buffer starts with an accepted table of the granted list
-pub left-table : {s : List ℕ} {c : Change} {entry exit : List ℕ} {n : ℕ} (l : Left s c entry exit n) → SmallIds (stations s) → named c < 2 ^ 32
+pub left-table : {s : List ℕ} {c : Change} {entry exit : List ℕ} {n : ℕ} (l : Left s c entry exit n) → Bytes s → named c < 2 ^ 32
     → (judged (encode (l .list)) ≡ Table (length (l .list))) × (stations (encode (l .list)) ≡ l .list)
-left-table {s} {c} l k h = granted-image (stations s) c (l .list) h (valid-table s (l .count) (l .accepted) k) (l .allowed)
+left-table {s} {c} l b h = granted-image (stations s) c (l .list) h (valid-table s b (count s) (l .accepted)) (l .allowed)

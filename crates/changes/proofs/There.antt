@@ -1,20 +1,39 @@
--- The record that has an id in an accepted table. Assumes nothing.
-use mathlib.Core.Path.{_≡_}
+-- The place of an id in an accepted table, and the record that has it. Assumes nothing.
+use mathlib.Core.Path.{_≡_, sym, _∙_}
 use mathlib.Core.Bool.{true}
 use mathlib.Core.List.{List}
-use Prim.Native.Nat.{ℕ}
+use Prim.Native.Nat.{ℕ, _≤_, _<_}
+use native.Mathlib.Omega.{arith}
 use Rattle.ground.specs.Lists.{some, first}
-use Rattle.stations.specs.Version.{top}
-use Rattle.stations.specs.Image.{stationAt, stations, version, judged}
-use Rattle.stations.specs.Lists.{hasId, fromId}
+use Rattle.ground.proofs.Positions.{in-at}
+use Rattle.stations.specs.Image.{stationAt, stations, judged}
+use Rattle.stations.specs.Lists.{hasId, fromId, withId}
 use Rattle.stations.specs.declared.Judged.the-variants.{Table}
 use Rattle.stations.specs.declared.Station.{Station}
-use Rattle.stations.proofs.Fine.{good}
-use Rattle.granting.proofs.Ready.{record-at, own-id}
-use Rattle.changes.specs.Lists.{find}
-use Rattle.changes.proofs.Held.{holds-at, find-held}
+use Rattle.stations.proofs.Ids.{with-one}
+use Rattle.stations.proofs.Table.{whole, next}
+use Rattle.stations.proofs.Places.{ids-ascend, place-le, present-place, present-first}
+use Rattle.stations.proofs.Versions.{limit-small}
 
-module _ (s : List ℕ) (n : ℕ) (e : judged s ≡ Table n) (id p : ℕ) (here : p ≡ first (fromId id) (stations s)) where
-  -- the record there is the one that is found
-  pub find-at : some (hasId id) (stations s) ≡ true → {A : Type 0} (none : A) (one : Station → A) → find id (stations s) none one ≡ one (stationAt s p)
-  find-at h none one = find-held (top (version s)) 0 id (stationAt s p) (stations s) none one (good s n e) (own-id s n e id p here h) (holds-at (stationAt s p) (stations s) p _ (record-at s n e id p here h))
+module _ (s : List ℕ) (n : ℕ) (e : judged s ≡ Table n) where
+  -- the count, and so every position, fits 32 bits
+  pub count-small : n ≤ 4000
+  count-small = omega (arith, whole s n e .few, limit-small)
+
+  module _ (id p : ℕ) (here : p ≡ first (fromId id) (stations s)) where
+    pub place-small : p ≤ 4000
+    place-small = omega (arith, place-le s n e id, count-small)
+
+    module _ (there : some (hasId id) (stations s) ≡ true) where
+      pub within : p < n
+      within = omega (arith, here, present-place s n e id there .0)
+
+      pub own-id : stationAt s p .id ≡ id
+      own-id = rw here (present-place s n e id there .1)
+
+      pub first-at : first (hasId id) (stations s) ≡ p
+      first-at = present-first s n e id there ∙ sym here
+
+      -- the record there is the one that has it
+      pub with-at : {A : Type 0} (none : A) (one : Station → A) → withId id (stations s) none one ≡ one (stationAt s p)
+      with-at none one = with-one id none one (stationAt s p) (stations s) (ids-ascend s n e) own-id (in-at (stations s) p _ (next (whole s n e) p within))

@@ -16,7 +16,7 @@ use Rattle.refusals.specs.Faults.{AskedChannel, IdZero, IdPresent, Short, Table
 use Rattle.stations.specs.Version.{limit}
 use Rattle.stations.specs.Image.{stations, judged}
 use Rattle.stations.specs.Encode.{encode}
-use Rattle.stations.specs.Lists.{hasId, movable}
+use Rattle.stations.specs.Lists.{hasId, withId, movable, onto, insert, without, rechannel}
 use Rattle.stations.specs.declared.Station.{Station}
 use Rattle.stations.specs.declared.Judged.{Judged}
 use Rattle.stations.specs.declared.Judged.the-variants.{Table, Refused as Refused′}
@@ -26,8 +26,6 @@ use Rattle.desk.specs.Asked.{outside, askedFault}
 use Rattle.desk.specs.declared.Answer.{Answer}
 use Rattle.desk.specs.declared.Answer.the-variants.{Refused}
 use Rattle.desk.proofs.Answers.{denied, table-refused, table-passed}
-use Rattle.granting.specs.Lists.{insert, remove, rechannel, onto}
-use Rattle.changes.specs.Lists.{find}
 use Rattle.finding.specs.Conflicts.{conflicts}
 use Rattle.changes.specs.Changes.{Change, add, withdraw, move, Decision, allow, refuse, not-for, entered, entering, decide, written, changedFor}
 use Rattle.changes.specs.declared.Newcomer.{Newcomer}
@@ -91,7 +89,7 @@ pub withdraw-absent : (ss : List Station) (id : ℕ) → some (hasId id) ss ≡ 
 unfolding decide
 withdraw-absent ss id e = sym (here _ _ _ (ap not e) refl)
 
-pub withdraw-present : (ss : List Station) (id : ℕ) → some (hasId id) ss ≡ true → decide ss (withdraw id) ≡ allow (remove id ss)
+pub withdraw-present : (ss : List Station) (id : ℕ) → some (hasId id) ss ≡ true → decide ss (withdraw id) ≡ allow (without id ss)
 unfolding decide
 withdraw-present ss id e = sym (on _ _ _ (ap not e) refl)
 
@@ -103,11 +101,11 @@ module _ (ss : List Station) (id channel : ℕ) where
   move-outside h = sym (here _ _ _ h refl)
 
   module _ (inside : outside channel ≡ false) where
-    pub move-absent : find id ss (not-for IdAbsent) (λ r. given (not (movable r)) (not-for (NotMovable (first (hasId id) ss))) (given (some (conflicts (onto channel r)) ss) (not-for (Short (first (conflicts (onto channel r)) ss))) (allow (rechannel id channel ss)))) ≡ not-for IdAbsent → decide ss (move id channel) ≡ not-for IdAbsent
+    pub move-absent : withId id ss (not-for IdAbsent) (λ r. given (not (movable r)) (not-for (NotMovable (first (hasId id) ss))) (given (some (conflicts (onto channel r)) ss) (not-for (Short (first (conflicts (onto channel r)) ss))) (allow (rechannel id channel ss)))) ≡ not-for IdAbsent → decide ss (move id channel) ≡ not-for IdAbsent
     unfolding decide
     move-absent e = sym (on _ _ _ inside (sym e))
 
-    module _ (x : Station) (at : (none : Decision) (one : Station → Decision) → find id ss none one ≡ one x) where
+    module _ (x : Station) (at : (none : Decision) (one : Station → Decision) → withId id ss none one ≡ one x) where
       pub move-fixed : (p : ℕ) → first (hasId id) ss ≡ p → movable x ≡ false → decide ss (move id channel) ≡ not-for (NotMovable p)
       unfolding decide
       move-fixed p e h = sym (on _ _ _ inside (sym (at _ _ ∙ sym (here _ _ _ (ap not h) (ap (λ (k : ℕ). not-for (NotMovable k)) (sym e))))))

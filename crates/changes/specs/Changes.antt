@@ -12,15 +12,13 @@ use Rattle.refusals.specs.Faults.{Fault, refusal, AskedChannel, IdZero, IdPrese
 use Rattle.stations.specs.Version.{limit}
 use Rattle.stations.specs.Image.{stations, judged}
 use Rattle.stations.specs.Encode.{encode}
-use Rattle.stations.specs.Lists.{hasId, movable}
+use Rattle.stations.specs.Lists.{hasId, withId, movable, onto, insert, without, rechannel}
 use Rattle.stations.specs.declared.Station.{Station}
 use Rattle.stations.specs.declared.Verdict.{Verdict}
 use Rattle.stations.specs.declared.Verdict.the-variants.{Sound, Faulty}
 use Rattle.desk.specs.Answers.{Outcome, grant, deny, onTable}
 use Rattle.desk.specs.Asked.{outside, askedFault}
 use Rattle.finding.specs.Conflicts.{conflicts}
-use Rattle.granting.specs.Lists.{insert, remove, onto, rechannel}
-use Rattle.changes.specs.Lists.{find}
 use Rattle.changes.specs.declared.Newcomer.{Newcomer}
 
 -- what is asked for
@@ -37,9 +35,9 @@ pub data Decision : Type 0 where
 abbrev pub not-for : Fault → Decision
 not-for f = refuse (refusal f)
 
-abbrev pub past : Verdict → Decision → Decision
-past Sound d = d
-past (Faulty f) d = refuse f
+abbrev pub onVerdict : Verdict → Decision → Decision
+onVerdict Sound d = d
+onVerdict (Faulty f) d = refuse f
 
 -- the record of a newcomer: flags 0
 abbrev pub entered : Newcomer → Station
@@ -57,11 +55,11 @@ entering ss r =
 -- Add: 13 to 17, then the record's. Withdraw: 23. Move: 13, 23, 25, 20
 unfoldable pub decide : List Station → Change → Decision
 decide ss (add w) =
-    past (askedFault (w .channel) (w .channel) (w .class) (w .zone) (w .latitude) (w .longitude)) (entering ss (entered w))
-decide ss (withdraw id) = given (not (some (hasId id) ss)) (not-for IdAbsent) (allow (remove id ss))
+    onVerdict (askedFault (w .channel) (w .channel) (w .class) (w .zone) (w .latitude) (w .longitude)) (entering ss (entered w))
+decide ss (withdraw id) = given (not (some (hasId id) ss)) (not-for IdAbsent) (allow (without id ss))
 decide ss (move id channel) =
     given (outside channel) (not-for AskedChannel)
-    (find id ss (not-for IdAbsent) (λ r.
+    (withId id ss (not-for IdAbsent) (λ r.
     given (not (movable r)) (not-for (NotMovable (first (hasId id) ss)))
     (given (some (conflicts (onto channel r)) ss) (not-for (Short (first (conflicts (onto channel r)) ss)))
     (allow (rechannel id channel ss)))))

@@ -2,16 +2,17 @@
 ghost use mathlib.Core.Path.{_≡_};
 ghost use Rattle.desk.specs.Answers.{Answered};
 ghost use Rattle.changes.specs.Changes.{add as adding, withdraw as withdrawing, move as moving, entering, written, changedFor};
-ghost use Rattle.granting.specs.Lists.{onto};
-ghost use Rattle.spacing.specs.Limits.{Sound};
-ghost use Rattle.stations.specs.Image.{stations, judged};
-ghost use Rattle.stations.specs.declared.Judged.the-variants.{Table};
+ghost use Rattle.stations.specs.Lists.{onto};
+ghost use Rattle.finding.specs.Asking.{Entrant};
+ghost use Rattle.stations.specs.Image.{stations};
 use desk::Answer;
 use finding::first_conflict;
 use finding::is_there;
 use granting::grant_add;
 use granting::grant_move;
 use granting::grant_withdraw;
+use part73::HIGHEST_ASKED;
+use part73::LOWEST_ASKED;
 use stations::Judged;
 use stations::Station;
 use stations::Verdict;
@@ -52,31 +53,31 @@ pub fn add(table: &[u8], newcomer: Newcomer, image: &mut [u8]) -> Answer
         latitude,
         longitude,
     };
-    enter(table, n, r, image)
+    enter(table, r, image)
 }
 
 // A record to be entered, of a class at a site that passed.
-fn enter(table: &[u8], n: usize, r: Station, image: &mut [u8]) -> Answer
-    requires { ⌜ judged (now table) ≡ Table n ⌝ }
-    requires { ⌜ Sound (r .class) (r .latitude) (r .longitude) ⌝ }
+fn enter(table: &[u8], r: Station, image: &mut [u8]) -> Answer
+    requires { ⌜ Entrant (now table) r ⌝ }
     ensures { λ a. ⌜ Answered (written (entering (stations (now (table .entry))) r)) (now (image .entry)) (now (image .exit)) a ⌝ }
 {
     let id = r.id;
     if id == 0 {
         return desk::refused(refusals::ID_ZERO);
     }
-    let p = stations::place_of(table, n, id);
-    if is_there(table, n, p, id) {
+    let n = stations::count_of(table);
+    let p = stations::place_of(table, id);
+    if is_there(table, p, id) {
         return desk::refused_with(refusals::ID_PRESENT, p as u32);
     }
-    let q = first_conflict(table, n, r);
+    let q = first_conflict(table, r);
     if q < n {
         return desk::refused_with(refusals::SHORT, q as u32);
     }
     if stations::is_full(n) {
         return desk::refused(refusals::TABLE_FULL);
     }
-    grant_add(table, n, p, r, image)
+    grant_add(table, p, r, image)
 }
 
 // The record taken out.
@@ -87,11 +88,11 @@ pub fn withdraw(table: &[u8], id: u32, image: &mut [u8]) -> Answer
     let Judged::Table(n) = j else {
         return desk::left(j);
     };
-    let p = stations::place_of(table, n, id);
-    if !is_there(table, n, p, id) {
+    let p = stations::place_of(table, id);
+    if !is_there(table, p, id) {
         return desk::refused(refusals::ID_ABSENT);
     }
-    grant_withdraw(table, n, p, id, image)
+    grant_withdraw(table, p, image)
 }
 
 // The record on another channel.
@@ -102,14 +103,14 @@ pub fn move_to(table: &[u8], id: u32, channel: u32, image: &mut [u8]) -> Answer
     let Judged::Table(n) = j else {
         return desk::left(j);
     };
-    if channel < 221 {
+    if channel < LOWEST_ASKED {
         return desk::refused(refusals::ASKED_CHANNEL);
     }
-    if 300 < channel {
+    if HIGHEST_ASKED < channel {
         return desk::refused(refusals::ASKED_CHANNEL);
     }
-    let p = stations::place_of(table, n, id);
-    if !is_there(table, n, p, id) {
+    let p = stations::place_of(table, id);
+    if !is_there(table, p, id) {
         return desk::refused(refusals::ID_ABSENT);
     }
     let x = stations::station_at(table, p);
@@ -117,11 +118,11 @@ pub fn move_to(table: &[u8], id: u32, channel: u32, image: &mut [u8]) -> Answer
         return desk::refused_with(refusals::NOT_MOVABLE, p as u32);
     }
     let r = moved(x, channel as u16);
-    let near = first_conflict(table, n, r);
+    let near = first_conflict(table, r);
     if near < n {
         return desk::refused_with(refusals::SHORT, near as u32);
     }
-    grant_move(table, n, p, r, image)
+    grant_move(table, p, r, image)
 }
 
 // A station on another channel.

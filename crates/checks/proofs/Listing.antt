@@ -5,30 +5,59 @@ use mathlib.Core.List.{List, [], _∷_, map, List·Memᴰ·head, List·Memᴰ·t
 use Prim.Native.Nat.{ℕ, zero, suc, _+_, _-_, _*_, _≤_, _<_}
 use native.Mathlib.Nat.{le-of-suc-le-suc, not-suc-le-zero}
 use native.Mathlib.Omega.{arith}
-use lib.IntN.{ℤ}
-use lib.ListN.{length, getD, drop, length-take, length-map, drop-of-length-le}
-use lib.Seq.{drop-cons, getD-take}
-use Rattle.ground.specs.Lists.{span, each}
+use lib.ListN.{length, getD, take, drop, length-take, length-map, drop-of-length-le}
+use lib.Seq.{drop-cons, getD-take, length-take-le}
+use Rattle.ground.specs.Lists.{_∈_, span, keep, each}
 use Rattle.ground.specs.Rows.{Row, row, flat}
-use Rattle.ground.proofs.Order.{_∈_, in-keep, in-span}
-use Rattle.distance.specs.Distance.{S, km}
-use Rattle.part73.specs.TableA.{km as tableA}
-use Rattle.spacing.specs.Pair.{Assignment, assignment, separation, squareOf, distanceOf}
-use Rattle.stations.specs.Image.{stationAt}
+use Rattle.ground.proofs.Order.{in-keep, in-span}
+use Rattle.ground.proofs.Keeps.{map-map}
+use Rattle.distance.specs.Distance.{S, D}
+use Rattle.part73.specs.TableA.{tableA}
+use Rattle.spacing.specs.Pair.{Assignment, sited, separation, squareOf, distanceOf}
+use Rattle.spacing.specs.declared.Place.{Place}
+use Rattle.stations.specs.Image.{stationAt, stations, count, Accepted}
+use Rattle.stations.specs.Version.{limit}
 use Rattle.stations.specs.declared.Station.{Station}
-use Rattle.nearby.specs.Positions.{shortPositions}
+use Rattle.survey.specs.Ways.{near, everyRecord, studied}
+use Rattle.survey.specs.Marks.{blocks}
+use Rattle.survey.proofs.Studied.{keep-at}
+use Rattle.nearby.specs.Positions.{shortPositions, Noted}
 use Rattle.checks.specs.Check.{rowOf, shortRows}
-use Rattle.nearby.specs.Walk.{Noted}
+use Rattle.checks.specs.Positions.{rowsAt}
 
 -- the numbers of one row, from the record as it was read
-pub row-is : (s : List ℕ) (channel class : ℕ) (lat lon : ℤ) (i : ℕ) (r : Station) (d w : ℕ) → r ≡ stationAt s i → d ≡ km (S lat lon (r .latitude) (r .longitude)) → w ≡ separation tableA channel class (r .channel) (r .class) → r .id ∷ d ∷ w ∷ [] ≡ flat (rowOf s (assignment channel class lat lon) i ∷ [])
+pub row-is : (p : Place) (channel : ℕ) (r : Station) (d w : ℕ) → d ≡ D (S (p .latitude) (p .longitude) (r .latitude) (r .longitude)) → w ≡ separation tableA channel (p .class) (r .channel) (r .class) → r .id ∷ d ∷ w ∷ [] ≡ flat (rowOf tableA (sited p channel) r ∷ [])
 unfolding flat rowOf distanceOf squareOf
-row-is s channel class lat lon i r d w e f g = rw (f, g, e)
+row-is p channel r d w f g = rw (f, g)
 
 pub length-flat : (rs : List Row) → length (flat rs) ≡ 3 * length rs
 unfolding flat
 length-flat [] = refl
 length-flat (r ∷ rs) = omega (arith, length-flat rs)
+
+-- ---- the rows of the first k places
+
+module _ (g : ℕ → Row) (hits : List ℕ) (k : ℕ) (h : k ≤ length hits) where
+  -- from i on
+  rows-from : (m i : ℕ) → i + m ≡ k → each (λ t. flat (g (getD hits t 0) ∷ [])) (span i m) ≡ flat (map g (drop i (take k hits)))
+  unfolding flat each span
+  rows-from zero i e = ap (λ (l : List ℕ). flat (map g l)) (sym (drop-of-length-le (take k hits) {i = i} (omega (arith, length-take-le k hits h))))
+  rows-from (suc m) i e =
+      let l : i < length (take k hits) = omega (arith, length-take-le k hits h) in
+      rw (drop-cons (take k hits) i 0 l, getD-take k hits i 0 (omega arith), rows-from m (suc i) (omega arith))
+
+  pub rows-are : each (λ t. flat (g (getD hits t 0) ∷ [])) (span 0 (k - 0)) ≡ flat (map g (take k hits))
+  rows-are = rows-from (k - 0) 0 (omega arith)
+
+  -- three numbers for each
+  pub length-rows : length (flat (map g (take k hits))) ≡ 3 * k
+  length-rows = omega (arith, length-flat (map g (take k hits)), length-map (take k hits) g, length-take-le k hits h)
+
+-- ---- the rows of the list of stations, by the positions of the short ones
+
+pub rows-at : (km : ℕ → ℕ → ℕ → ℕ) (look : Station → Bool) (s : List ℕ) (p : Assignment) → Accepted s → shortRows km p (keep look (stations s)) ≡ map (λ j. rowOf km p (stationAt s j)) (shortPositions km look s p)
+unfolding shortRows shortPositions blocks
+rows-at km look s p e = ap (map (rowOf km p)) (keep-at s (count s) e look (near km p)) ∙ map-map (stationAt s) (rowOf km p) (shortPositions km look s p)
 
 -- what stands at a place of a list is one of it
 at-in : (l : List ℕ) (t : ℕ) → t < length l → getD l t 0 ∈ l
@@ -37,41 +66,20 @@ at-in (x ∷ l) zero h = List·Memᴰ·head refl
 at-in (x ∷ l) (suc t) h = List·Memᴰ·tail (at-in l t (le-of-suc-le-suc h))
 
 module _ {vs hits : List ℕ} {k : ℕ} (w : Noted vs hits k) where
-  pub noted-few : k ≤ 2000
+  pub noted-few : k ≤ limit
   noted-few = omega (arith, w .long, w .many, ap length (w .holds), length-take k hits)
 
-  noted-at : (t : ℕ) → t < k → getD hits t 0 ≡ getD vs t 0
-  noted-at t h = sym (getD-take k hits t 0 h) ∙ ap (λ (l : List ℕ). getD l t 0) (w .holds)
-
-  -- the rows of what is noted from i on
-  rows-from : (g : ℕ → Row) (m i : ℕ) → i + m ≡ k → each (λ t. flat (g (getD hits t 0) ∷ [])) (span i m) ≡ flat (map g (drop i vs))
-  unfolding flat each span
-  rows-from g zero i e = ap (λ (l : List ℕ). flat (map g l)) (sym (drop-of-length-le vs {i = i} (omega (arith, w .many))))
-  rows-from g (suc m) i e =
-      let h : i < length vs = omega (arith, w .many) in
-      rw (drop-cons vs i 0 h, noted-at i (omega arith), rows-from g m (suc i) (omega arith))
-
-  rows-all : (g : ℕ → Row) → each (λ t. flat (g (getD hits t 0) ∷ [])) (span 0 (k - 0)) ≡ flat (map g vs)
-  rows-all g = rows-from g (k - 0) 0 (omega arith)
-
-  length-rows : (g : ℕ → Row) → length (flat (map g vs)) ≡ 3 * k
-  length-rows g = omega (arith, length-flat (map g vs), length-map vs g, w .many)
-
--- where the positions of the short stations are noted
-module _ (look : Station → Bool) (s : List ℕ) (n : ℕ) (p : Assignment) {hits : List ℕ} {k : ℕ} (w : Noted (shortPositions look s n p) hits k) where
+-- where these are noted, and every record is looked at
+module _ (s : List ℕ) (e : Accepted s) (p : Assignment) {hits : List ℕ} {k : ℕ} (w : Noted (shortPositions tableA everyRecord s p) hits k) where
   -- each is one of the table
-  pub position : (t : ℕ) → t < k → getD hits t 0 < n
+  pub position : (t : ℕ) → t < k → getD hits t 0 < count s
   unfolding shortPositions
   position t h =
-      let m = in-keep _ (span 0 n) .0 (at-in (shortPositions look s n p) t (omega (arith, w .many))) .0 in
-      omega (arith, noted-at w t h, in-span _ n 0 .0 m .1)
+      let m = in-keep _ (span 0 (count s)) .0 (at-in (shortPositions tableA everyRecord s p) t (omega (arith, w .many))) .0 in
+      let q = sym (getD-take k hits t 0 h) ∙ ap (λ (l : List ℕ). getD l t 0) (w .holds) in
+      omega (arith, q, in-span _ (count s) 0 .0 m .1)
 
-  -- three numbers for each
-  pub need-is : length (flat (shortRows look s n p)) ≡ 3 * k
-  unfolding shortRows
-  need-is = length-rows w (rowOf s p)
-
-  -- and these are the rows
-  pub rows-are : each (λ t. flat (rowOf s p (getD hits t 0) ∷ [])) (span 0 (k - 0)) ≡ flat (shortRows look s n p)
-  unfolding shortRows
-  rows-are = rows-all w (rowOf s p)
+  -- their rows are those of the question
+  pub rows-noted : rowsAt s p (take k hits) ≡ shortRows tableA p (studied (stations s))
+  unfolding studied
+  rows-noted = rw (w .holds) (sym (rows-at tableA everyRecord s p e))

@@ -2,88 +2,77 @@
 -- Assumes nothing.
 use mathlib.Core.Path.{_≡_, refl}
 use mathlib.Core.Logic.{_↔_}
-use mathlib.Core.Bool.{Bool, true}
+use mathlib.Core.Bool.{true}
 use mathlib.Core.List.{List, [], _∷_, map, List·Memᴰ·head, List·Memᴰ·not-nil}
-use Prim.Native.Nat.{ℕ, _<_}
-use native.Mathlib.Omega.{arith}
+use Prim.Native.Nat.{ℕ}
 use borrow.Author.Tests.{ltb-true, lt-ltb}
-use Rattle.ground.specs.Lists.{span, keep}
+use Rattle.ground.specs.Lists.{_∈_, keep}
 use Rattle.ground.specs.Rows.{Row, flat}
-use Rattle.ground.proofs.Guards.{and-was, and-both}
-use Rattle.ground.proofs.Order.{_∈_, in-keep, in-map, in-span, Ascending, ascending-keep, ascending-map, ascending-span, strict-by, one-ascending}
+use Rattle.ground.proofs.Order.{in-keep, in-map, Ascending, By, ascending-keep, ascending-map, strict-by, one-ascending}
+use Rattle.part73.specs.TableA.{tableA}
 use Rattle.spacing.specs.Pair.{Assignment, shortBy}
-use Rattle.stations.specs.Image.{stationAt, judged}
+use Rattle.stations.specs.Image.{stations, judged}
 use Rattle.stations.specs.declared.Station.{Station}
 use Rattle.stations.specs.declared.Judged.the-variants.{Table}
 use Rattle.stations.specs.declared.Verdict.the-variants.{Sound}
-use Rattle.stations.proofs.Table.{whole}
-use Rattle.stations.proofs.Places.{ascending}
-use Rattle.survey.specs.Ways.{everyRecord, blocks}
+use Rattle.survey.specs.Ways.{near, studied}
+use Rattle.survey.proofs.Studied.{studied-ascend}
 use Rattle.desk.specs.Answers.{grant, Answered}
 use Rattle.desk.specs.Asked.{askedFault}
 use Rattle.desk.specs.declared.Answer.{Answer}
 use Rattle.desk.proofs.Answers.{one-answer}
-use Rattle.nearby.specs.Positions.{shortPositions}
 use Rattle.checks.specs.Check.{asked, rowOf, shortRows, checkedFor}
 use Rattle.checks.specs.Meaning.{Short, ShortRow, Before}
 use Rattle.checks.specs.declared.Proposal.{Proposal}
 
-module _ (look : Station → Bool) (s : List ℕ) (p : Assignment) where
+module _ (km : ℕ → ℕ → ℕ → ℕ) (p : Assignment) where
   -- the test and its meaning
-  pub blocks-short : (j : ℕ) → (blocks look s p j ≡ true) ↔ Short look s p j
-  unfolding blocks shortBy
-  blocks-short j = (λ e. let b = and-was (look (stationAt s j)) _ e in record { looked = b .0; below = ltb-true _ _ (b .1) }, λ h. and-both _ _ (h .looked) (lt-ltb _ _ (h .below)))
+  pub near-short : (r : Station) → (near km p r ≡ true) ↔ Short km p r
+  unfolding shortBy
+  near-short r = (λ e. ltb-true _ _ e, λ h. lt-ltb _ _ h)
 
-  module _ (n : ℕ) where
+  module _ (ss : List Station) where
     -- a row stands there exactly when it is that of a short station
-    pub stands : (r : Row) → (r ∈ shortRows look s n p) ↔ ShortRow look s n p r
-    unfolding shortRows shortPositions
-    stands r = (to, from)
+    pub short-listed : (x : Row) → (x ∈ shortRows km p ss) ↔ ShortRow km p ss x
+    unfolding shortRows
+    short-listed x = (to, from)
       where
-        to : r ∈ map (rowOf s p) (keep (blocks look s p) (span 0 n)) → ShortRow look s n p r
+        to : x ∈ map (rowOf km p) (keep (near km p) ss) → ShortRow km p ss x
         to m =
-            let x = in-map (rowOf s p) _ .0 m in
-            let k = in-keep (blocks look s p) (span 0 n) .0 (x .1) in
-            record { position = x .0; within = omega (arith, in-span (x .0) n 0 .0 (k .0) .1); short = blocks-short (x .0) .0 (k .1); is = x .2 }
+            let y = in-map (rowOf km p) _ .0 m in
+            let k = in-keep (near km p) ss .0 (y .1) in
+            record { station = y .0; stands = k .0; short = near-short (y .0) .0 (k .1); is = y .2 }
 
-        from : ShortRow look s n p r → r ∈ map (rowOf s p) (keep (blocks look s p) (span 0 n))
-        from h =
-            in-map (rowOf s p) _ .1
-            (h .position, in-keep (blocks look s p) (span 0 n) .1 (in-span (h .position) n 0 .1 (omega arith, omega (arith, h .within)), blocks-short (h .position) .1 (h .short)), h .is)
-
-    -- in table order
-    pub positions-ascend : Ascending _<_ (shortPositions look s n p)
-    unfolding shortPositions
-    positions-ascend = ascending-keep _ (span 0 n) (ascending-span n 0)
+        from : ShortRow km p ss x → x ∈ map (rowOf km p) (keep (near km p) ss)
+        from h = in-map (rowOf km p) _ .1 (h .station, in-keep (near km p) ss .1 (h .stands, near-short (h .station) .1 (h .short)), h .is)
 
     -- no short station means acceptable
-    pub acceptable : (shortRows look s n p ≡ []) ↔ ((j : ℕ) → j < n → Short look s p j → ⊥)
-    acceptable = (none, empty (shortRows look s n p) (λ r m. stands r .0 m))
+    pub acceptable : (shortRows km p ss ≡ []) ↔ ((r : Station) → r ∈ ss → Short km p r → ⊥)
+    acceptable = (none, empty (shortRows km p ss) (λ x m. short-listed x .0 m))
       where
-        none : shortRows look s n p ≡ [] → (j : ℕ) → j < n → Short look s p j → ⊥
-        none e j h w = List·Memᴰ·not-nil (rw e at (stands (rowOf s p j) .1 (record { position = j; within = h; short = w; is = refl })))
+        none : shortRows km p ss ≡ [] → (r : Station) → r ∈ ss → Short km p r → ⊥
+        none e r m h = List·Memᴰ·not-nil (rw e at (short-listed (rowOf km p r) .1 (record { station = r; stands = m; short = h; is = refl })))
 
-        empty : (l : List Row) → ((r : Row) → r ∈ l → ShortRow look s n p r) → ((j : ℕ) → j < n → Short look s p j → ⊥) → l ≡ []
+        empty : (l : List Row) → ((x : Row) → x ∈ l → ShortRow km p ss x) → ((r : Station) → r ∈ ss → Short km p r → ⊥) → l ≡ []
         empty [] f h = refl
-        empty (r ∷ l) f h = let w = f r (List·Memᴰ·head refl) in absurd (h (w .position) (w .within) (w .short))
+        empty (x ∷ l) f h = let w = f x (List·Memᴰ·head refl) in absurd (h (w .station) (w .stands) (w .short))
 
-    module _ (e : judged s ≡ Table n) where
-      -- the ids ascend strictly, so each stands there once
-      pub rows-ascend : Ascending Before (shortRows look s n p)
-      unfolding shortRows shortPositions rowOf
-      rows-ascend =
-          ascending-map (rowOf s p) (shortPositions look s n p) positions-ascend
-          (λ i j a b l. ascending s n e 0 i j l (omega (arith, in-span j n 0 .0 (in-keep (blocks look s p) (span 0 n) .0 b .0) .1)))
+    module _ (ids : Ascending (By (λ r. r .id)) ss) where
+      -- the ids ascend strictly, so each stands there once, in table order
+      pub rows-ascend : Ascending Before (shortRows km p ss)
+      unfolding shortRows rowOf
+      rows-ascend = ascending-map (rowOf km p) (keep (near km p) ss) (ascending-keep (near km p) ss ids) (λ x y a b l. l)
 
       -- there is only one such list
-      pub only-list : (l : List Row) → Ascending Before l → ((r : Row) → (r ∈ l) ↔ ShortRow look s n p r) → l ≡ shortRows look s n p
+      pub only-list : (l : List Row) → Ascending Before l → ((x : Row) → (x ∈ l) ↔ ShortRow km p ss x) → l ≡ shortRows km p ss
       only-list l a f =
-          one-ascending (strict-by (λ (r : Row). r .a)) l (shortRows look s n p) a rows-ascend (λ r. (λ m. stands r .1 (f r .0 m), λ m. f r .1 (stands r .0 m)))
+          one-ascending (strict-by (λ (x : Row). x .a)) l (shortRows km p ss) a rows-ascend (λ x. (λ m. short-listed x .1 (f x .0 m), λ m. f x .1 (short-listed x .0 m)))
 
--- what is granted to a proposal that passes its checks
-pub granted : (s : List ℕ) (n : ℕ) (p : Proposal) → judged s ≡ Table n → askedFault (p .channel) (p .channel) (p .class) (p .zone) (p .latitude) (p .longitude) ≡ Sound → checkedFor s p ≡ grant (flat (shortRows everyRecord s n (asked p)))
+-- what is granted to a proposal that passes its checks: the one list of the rows of its short stations
+pub granted : (s : List ℕ) (n : ℕ) (p : Proposal) → judged s ≡ Table n → askedFault (p .channel) (p .channel) (p .class) (p .zone) (p .latitude) (p .longitude) ≡ Sound
+    → (l : List Row) → Ascending Before l → ((x : Row) → (x ∈ l) ↔ ShortRow tableA (asked p) (studied (stations s)) x) → checkedFor s p ≡ grant (flat l)
 unfolding checkedFor
-granted s n p e f = rw (whole s n e .counted, e, f)
+granted s n p e f l a h = rw (e, f, only-list tableA (asked p) (studied (stations s)) (studied-ascend s n e) l a h)
 
 -- two results that meet the promise are equal
 pub one-check : (s : List ℕ) (p : Proposal) {entry exit exit′ : List ℕ} {r r′ : Answer} → Answered (checkedFor s p) entry exit r → Answered (checkedFor s p) entry exit′ r′ → (exit ≡ exit′) × (r ≡ r′)

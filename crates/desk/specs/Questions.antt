@@ -5,7 +5,7 @@ use Prim.Native.Nat.{ℕ}
 use lib.Dec.{ltb}
 use lib.IntN.{ℤ}
 use Rattle.ground.specs.Guard.{given}
-use Rattle.distance.specs.Distance.{S, km}
+use Rattle.distance.specs.Distance.{S, D}
 use Rattle.refusals.specs.Faults.{refusal, AskedSite, TooFar}
 use Rattle.stations.specs.Image.{judged}
 use Rattle.stations.specs.declared.Judged.{Judged}
@@ -27,5 +27,5 @@ unfoldable pub distanceOf : ℤ → ℤ → ℤ → ℤ → Answer
 distanceOf lat1 lon1 lat2 lon2 =
     given (not (siteOk lat1 lon1)) (Refused (refusal AskedSite))
     (given (not (siteOk lat2 lon2)) (Refused (refusal AskedSite))
-    (given (ltb 475 (km (S lat1 lon1 lat2 lon2))) (Refused (refusal TooFar))
-    (Granted (km (S lat1 lon1 lat2 lon2)))))
+    (given (ltb 475 (D (S lat1 lon1 lat2 lon2))) (Refused (refusal TooFar))
+    (Granted (D (S lat1 lon1 lat2 lon2)))))

@@ -3,6 +3,8 @@ ghost use mathlib.Core.Path.{_≡_};
 ghost use Rattle.desk.specs.Answers.{leave};
 ghost use Rattle.desk.specs.Asked.{siteOk, placeFault, askedFault};
 ghost use Rattle.desk.specs.Questions.{readOf, distanceOf};
+use part73::HIGHEST_ASKED;
+use part73::LOWEST_ASKED;
 use refusals::Refusal;
 use stations::Judged;
 use stations::Verdict;
@@ -77,16 +79,16 @@ pub fn asked_fault(
 ) -> Verdict
     ensures { λ r. ⌜ r ≡ askedFault first last class zone latitude longitude ⌝ }
 {
-    if first < 221 {
+    if first < LOWEST_ASKED {
         return faulty(refusals::ASKED_CHANNEL);
     }
-    if 300 < first {
+    if HIGHEST_ASKED < first {
         return faulty(refusals::ASKED_CHANNEL);
     }
-    if last < 221 {
+    if last < LOWEST_ASKED {
         return faulty(refusals::ASKED_CHANNEL);
     }
-    if 300 < last {
+    if HIGHEST_ASKED < last {
         return faulty(refusals::ASKED_CHANNEL);
     }
     if last < first {

@@ -91,7 +91,7 @@ pub record Rounded (S D : ℕ) : Type 0 where
   pub over : 0 < D → (10000 * D - 5000) * (10000 * D - 5000) ≤ S
 
 -- the same as a function: the whole root of S, of at most 32 binary digits, rounded to 10,000, a half up.
--- `km-is` and `unique` of proofs/Rounding: it is step 6's number, and there is no other
+-- `D-is` and `unique` of proofs/Rounding: it is step 6's number, and there is no other
 abbrev pub pick : Bool → ℕ → ℕ → ℕ
 pick true a b = a
 pick false a b = b
@@ -103,5 +103,5 @@ unfoldable pub root : ℕ → ℕ → ℕ
 root zero S = 0
 root (suc n) S = digit S (2 * root n (S / 4))
 
-unfoldable pub km : ℕ → ℕ
-km S = (root 32 S + 5000) / 10000
+unfoldable pub D : ℕ → ℕ
+D S = (root 32 S + 5000) / 10000

@@ -2,7 +2,7 @@
 ghost use mathlib.Core.Path.{_≡_};
 ghost use Prim.Native.Nat.{_+_, _*_, _≤_, _<_};
 ghost use lib.IntN.{ℤ, pos, natAbs, _+ℤ_, _-ℤ_, _*ℤ_};
-ghost use Rattle.distance.specs.Distance.{_÷_, E, next, series, lonGap, P, Q, S, root, km, latitudeOk, longitudeOk, Placed};
+ghost use Rattle.distance.specs.Distance.{_÷_, E, next, series, lonGap, P, Q, S, root, D, latitudeOk, longitudeOk, Placed};
 ghost use Rattle.distance.specs.Bounds.{LeastScale, MostHalves};
 
 // |x|
@@ -168,7 +168,7 @@ fn whole_root(s: u64) -> u64
 // The whole number of km nearest to the root of s square decimetres; a half rounds up.
 pub fn rounded_km(s: u64) -> u64
     requires { ⌜ s ≤ 200000000000000000 ⌝ }
-    ensures { λ r. ⌜ r ≡ km s ⌝ }
+    ensures { λ r. ⌜ r ≡ D s ⌝ }
 {
     (whole_root(s) + 5_000) / 10_000
 }

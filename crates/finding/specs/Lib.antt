@@ -1,1 +1,2 @@
 pub mod Conflicts
+pub mod Asking

@@ -1,4 +1,2 @@
-pub mod Cuts
-pub mod Ready
 pub mod Images
 pub mod Plan

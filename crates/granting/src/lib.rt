@@ -1,15 +1,11 @@
 // The answer to a change that is granted: the image of the new list where it fits, or 22 with the bytes that it needs.
-ghost use mathlib.Core.Path.{_≡_};
-ghost use Prim.Native.Nat.{_+_, _<_};
-ghost use Rattle.ground.specs.Lists.{first, some};
-ghost use mathlib.Core.Bool.{true, false};
-ghost use Rattle.stations.specs.Version.{limit};
-ghost use Rattle.stations.specs.Image.{stationAt, stations, judged};
+ghost use mathlib.Core.List.{_∷_, _++_};
+ghost use lib.ListN.{take, drop};
+ghost use Rattle.stations.specs.Image.{stationAt, stations};
 ghost use Rattle.stations.specs.Encode.{encode};
-ghost use Rattle.stations.specs.Lists.{hasId, fromId};
-ghost use Rattle.stations.specs.declared.Judged.the-variants.{Table};
+ghost use Rattle.stations.specs.Lists.{insert, without, rechannel};
 ghost use Rattle.desk.specs.Answers.{grant, Answered};
-ghost use Rattle.granting.specs.Lists.{insert, remove, rechannel, onto};
+ghost use Rattle.granting.specs.Written.{Adds, Withdraws, Moves, Plan};
 
 mod writing;
 
@@ -18,29 +14,45 @@ use stations::Station;
 use writing::write_with;
 use writing::write_without;
 
-// The list with a record set in at its place p.
-pub fn grant_add(table: &[u8], n: usize, p: usize, r: Station, image: &mut [u8]) -> Answer
-    requires { ⌜ judged (now table) ≡ Table n ⌝ }
-    requires { ⌜ (p ≡ first (fromId (r .id)) (stations (now table))) × ((some (hasId (r .id)) (stations (now table)) ≡ false) × (n < limit)) ⌝ }
-    ensures { λ a. ⌜ Answered (grant (encode (insert r (stations (now (table .entry)))))) (now (image .entry)) (now (image .exit)) a ⌝ }
+// The first p records of the table, a record, and the table's records from position q on: m records.
+fn grant_with(table: &[u8], p: usize, q: usize, r: Station, m: usize, image: &mut [u8]) -> Answer
+    requires { ⌜ Plan (now table) p q 1 m ⌝ }
+    ensures { λ a. ⌜ Answered (grant (encode (take p (stations (now (table .entry))) ++ (r ∷ drop q (stations (now (table .entry))))))) (now (image .entry)) (now (image .exit)) a ⌝ }
 {
-    let m = n + 1;
-    let need = table.len() + 16;
+    let need = 8 + 16 * m;
     let told = need as u32;
     if image.len() < need {
         return desk::refused_with(refusals::DOES_NOT_FIT, told);
     }
     let version = stations::version_for(m);
-    write_with(table, p, p, r, version, m as u16, image);
+    write_with(table, p, q, r, version, m as u16, image);
     Answer::Granted(told)
 }
 
-// The list without the record at its place p.
-pub fn grant_withdraw(table: &[u8], n: usize, p: usize, id: u32, image: &mut [u8]) -> Answer
-    requires { ⌜ judged (now table) ≡ Table n ⌝ }
-    requires { ⌜ (p ≡ first (fromId id) (stations (now table))) × (some (hasId id) (stations (now table)) ≡ true) ⌝ }
-    ensures { λ a. ⌜ Answered (grant (encode (remove id (stations (now (table .entry)))))) (now (image .entry)) (now (image .exit)) a ⌝ }
+// The list with a record set in at its place p.
+pub fn grant_add(table: &[u8], p: usize, r: Station, image: &mut [u8]) -> Answer
+    requires { ⌜ Adds (now table) p r ⌝ }
+    ensures { λ a. ⌜ Answered (grant (encode (insert r (stations (now (table .entry)))))) (now (image .entry)) (now (image .exit)) a ⌝ }
 {
+    let n = stations::count_of(table);
+    grant_with(table, p, p, r, n + 1, image)
+}
+
+// The list with the record at position p on the channel of r.
+pub fn grant_move(table: &[u8], p: usize, r: Station, image: &mut [u8]) -> Answer
+    requires { ⌜ Moves (now table) p r ⌝ }
+    ensures { λ a. ⌜ Answered (grant (encode (rechannel (r .id) (r .channel) (stations (now (table .entry)))))) (now (image .entry)) (now (image .exit)) a ⌝ }
+{
+    let n = stations::count_of(table);
+    grant_with(table, p, p + 1, r, n, image)
+}
+
+// The list without the record at position p.
+pub fn grant_withdraw(table: &[u8], p: usize, image: &mut [u8]) -> Answer
+    requires { ⌜ Withdraws (now table) p ⌝ }
+    ensures { λ a. ⌜ Answered (grant (encode (without (stationAt (now (table .entry)) p .id) (stations (now (table .entry)))))) (now (image .entry)) (now (image .exit)) a ⌝ }
+{
+    let n = stations::count_of(table);
     let m = n - 1;
     let need = table.len() - 16;
     let told = need as u32;
@@ -50,22 +62,5 @@ pub fn grant_withdraw(table: &[u8], n: usize, p: usize, id: u32, image: &mut [u8
     let after = p + 1;
     let version = stations::version_for(m);
     write_without(table, p, after, version, m as u16, image);
-    Answer::Granted(told)
-}
-
-// The list with the record at its place p on the channel of r.
-pub fn grant_move(table: &[u8], n: usize, p: usize, r: Station, image: &mut [u8]) -> Answer
-    requires { ⌜ judged (now table) ≡ Table n ⌝ }
-    requires { ⌜ (p ≡ first (fromId (r .id)) (stations (now table))) × ((some (hasId (r .id)) (stations (now table)) ≡ true) × (r ≡ onto (r .channel) (stationAt (now table) p))) ⌝ }
-    ensures { λ a. ⌜ Answered (grant (encode (rechannel (r .id) (r .channel) (stations (now (table .entry)))))) (now (image .entry)) (now (image .exit)) a ⌝ }
-{
-    let need = table.len();
-    let told = need as u32;
-    if image.len() < need {
-        return desk::refused_with(refusals::DOES_NOT_FIT, told);
-    }
-    let next = p + 1;
-    let version = stations::version_for(n);
-    write_with(table, p, next, r, version, n as u16, image);
     Answer::Granted(told)
 }

@@ -1,15 +1,17 @@
 // The image of a changed list: its header, the records before a place, and those from a place on.
 ghost use mathlib.Core.Path.{_≡_};
 ghost use mathlib.Core.List.{_++_};
-ghost use Prim.Native.Nat.{_+_, _-_, _*_, _≤_};
+ghost use Prim.Native.Nat.{_+_, _-_, _*_};
 ghost use lib.ListN.{length, take, drop};
 ghost use lib.Seq.{sets};
+ghost use Rattle.stations.specs.Copying.{Copies};
 ghost use Rattle.stations.specs.Encode.{recordOf, headerOf};
+ghost use Rattle.granting.specs.Written.{Room};
 use stations::Station;
 
 // The header, and the first p records of the table.
 fn begin(table: &[u8], p: usize, version: u16, n: u16, image: &mut [u8])
-    requires { ⌜ (8 + 16 * p ≤ length (now table)) × (8 + 16 * p ≤ length (now image)) ⌝ }
+    requires { ⌜ Copies (now table) 8 (now image) 8 (16 * p) ⌝ }
     ensures { λ _. ⌜ now (image .exit) ≡ sets (now (image .entry)) 0 (headerOf version n ++ take (16 * p) (drop 8 (now (table .entry)))) ⌝ }
 {
     stations::put_header(image, version, n);
@@ -18,7 +20,7 @@ fn begin(table: &[u8], p: usize, version: u16, n: u16, image: &mut [u8])
 
 // From the insertion place on: a record, and what stands in the table from a place on.
 fn go_on(table: &[u8], from: usize, r: Station, rest: &mut [u8])
-    requires { ⌜ (from ≤ length (now table)) × (16 + (length (now table) - from) ≤ length (now rest)) ⌝ }
+    requires { ⌜ Copies (now table) from (now rest) 16 (length (now table) - from) ⌝ }
     ensures { λ _. ⌜ now (rest .exit) ≡ sets (now (rest .entry)) 0 (recordOf r ++ drop from (now (table .entry))) ⌝ }
 {
     stations::put_station(rest, 0, r);
@@ -35,7 +37,7 @@ pub fn write_with(
     n: u16,
     image: &mut [u8],
 )
-    requires { ⌜ (8 + 16 * p ≤ length (now table)) × ((8 + 16 * q ≤ length (now table)) × (8 + 16 * p + (16 + (length (now table) - (8 + 16 * q))) ≤ length (now image))) ⌝ }
+    requires { ⌜ Room (now table) (now image) p q 16 ⌝ }
     ensures { λ _. ⌜ now (image .exit) ≡ sets (now (image .entry)) 0 ((headerOf version n ++ take (16 * p) (drop 8 (now (table .entry)))) ++ (recordOf r ++ drop (8 + 16 * q) (now (table .entry)))) ⌝ }
 {
     begin(table, p, version, n, image);
@@ -46,7 +48,7 @@ pub fn write_with(
 
 // The first p records of the table, and its records from position q on.
 pub fn write_without(table: &[u8], p: usize, q: usize, version: u16, n: u16, image: &mut [u8])
-    requires { ⌜ (8 + 16 * p ≤ length (now table)) × ((8 + 16 * q ≤ length (now table)) × (8 + 16 * p + (length (now table) - (8 + 16 * q)) ≤ length (now image))) ⌝ }
+    requires { ⌜ Room (now table) (now image) p q 0 ⌝ }
     ensures { λ _. ⌜ now (image .exit) ≡ sets (now (image .entry)) 0 ((headerOf version n ++ take (16 * p) (drop 8 (now (table .entry)))) ++ drop (8 + 16 * q) (now (table .entry))) ⌝ }
 {
     begin(table, p, version, n, image);

@@ -8,3 +8,9 @@ pub mod Writes
 pub mod Filling
 pub mod Firsts
 pub mod Order
+pub mod Keeps
+pub mod Passes
+pub mod Positions
+pub mod Cases
+pub mod Lent
+pub mod Tests

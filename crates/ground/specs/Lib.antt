@@ -2,3 +2,4 @@ pub mod Guard
 pub mod Lists
 pub mod Rows
 pub mod Writing
+pub mod Passing

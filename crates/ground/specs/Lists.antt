@@ -2,12 +2,17 @@
 -- Assumes nothing.
 use Prim.Native.Nat.{ℕ, zero, suc}
 use mathlib.Core.Bool.{Bool, true, false, cond, _&&_, _||_}
-use mathlib.Core.List.{List, [], _∷_, _++_}
+use mathlib.Core.List.{List, [], _∷_, _++_, List·Memᴰ}
 
 -- the n numbers from a on
 unfoldable pub span : ℕ → ℕ → List ℕ
 span a zero = []
 span a (suc n) = a ∷ span (suc a) n
+
+-- x stands in the list
+infix 4 _∈_
+abbrev pub _∈_ : {A : Type 0} → A → List A → Type 0
+x ∈ l = List·Memᴰ x l
 
 module _ {A : Type 0} where
   -- a function's first n values

@@ -42,7 +42,7 @@ fn put_number(text: &mut [u8], at: usize, n: u32, byte: u8) -> usize
 }
 
 // A line of three numbers.
-fn put_row(text: &mut [u8], at: usize, a: u32, b: u32, c: u32) -> usize
+fn put_numbers(text: &mut [u8], at: usize, a: u32, b: u32, c: u32) -> usize
     requires { ⌜ at + 33 ≤ length (now text) ⌝ }
     ensures { λ r. ⌜ Wrote (rowLine a b c) (now (text .entry)) at (now (text .exit)) r ⌝ }
     ensures { λ r. ⌜ r ≤ at + 33 ⌝ }
@@ -53,7 +53,7 @@ fn put_row(text: &mut [u8], at: usize, a: u32, b: u32, c: u32) -> usize
 }
 
 // The lines of the rows from one to before another.
-pub fn put_rows(text: &mut [u8], at: usize, rows: &[u32], from: usize, to: usize) -> usize
+pub fn put_lines(text: &mut [u8], at: usize, rows: &[u32], from: usize, to: usize) -> usize
     requires { ⌜ (from ≤ to) × ((3 * to ≤ length (now rows)) × (at + 33 * (to - from) ≤ length (now text))) ⌝ }
     ensures { λ r. ⌜ Wrote (each (lineAt (now (rows .entry))) (span from (to - from))) (now (text .entry)) at (now (text .exit)) r ⌝ }
     ensures { λ r. ⌜ r ≤ at + 33 * (to - from) ⌝ }
@@ -62,14 +62,14 @@ pub fn put_rows(text: &mut [u8], at: usize, rows: &[u32], from: usize, to: usize
     let mut i = from;
     while i < to {
         let k = 3 * i;
-        next = put_row(text, next, rows[k], rows[k + 1], rows[k + 2]);
+        next = put_numbers(text, next, rows[k], rows[k + 1], rows[k + 2]);
         i += 1;
     }
     next
 }
 
 // The line `short K`.
-pub fn put_short(text: &mut [u8], at: usize, k: u32) -> usize
+pub fn put_heading(text: &mut [u8], at: usize, k: u32) -> usize
     requires { ⌜ at + 33 ≤ length (now text) ⌝ }
     ensures { λ r. ⌜ Wrote (shortLine k) (now (text .entry)) at (now (text .exit)) r ⌝ }
     ensures { λ r. ⌜ r ≤ at + 33 ⌝ }

@@ -1,6 +1,6 @@
 -- A walk that notes the numbers that pass a test, one after the other. Assumes nothing.
 use mathlib.Core.Path.{_≡_, sym, ap, _∙_}
-use mathlib.Core.Bool.{Bool, true, false, cond}
+use mathlib.Core.Bool.{Bool, true, false}
 use mathlib.Core.List.{List, [], _∷_, _++_, append-nil, append-assoc}
 use Prim.Native.Nat.{ℕ, zero, suc, _+_, _-_, _≤_, _<_}
 use native.Mathlib.Nat.{add-zero}
@@ -10,16 +10,17 @@ use lib.ListN.{length, take, set, length-set}
 use lib.Seq.{take-suc-set, length-take-le}
 use Rattle.ground.specs.Lists.{span, keep}
 use Rattle.ground.proofs.Spans.{span-cons, span-done}
-use Rattle.nearby.specs.Walk.{Noted}
+use Rattle.stations.specs.Version.{limit}
+use Rattle.nearby.specs.Positions.{Noted}
 
 -- what is noted of the numbers below i, and those from i to n that pass, are vs
 pub record Noting (p : ℕ → Bool) (vs : List ℕ) (n : ℕ) (hits : List ℕ) (k i : ℕ) : Type 0 where
-  pub long : length hits ≡ 2000
+  pub long : length hits ≡ limit
   pub upto : i ≤ n
   pub few : k ≤ i
   pub holds : take k hits ++ keep p (span i (n - i)) ≡ vs
 
-pub note-start : (p : ℕ → Bool) (n : ℕ) (hits : List ℕ) → length hits ≡ 2000 → Noting p (keep p (span 0 n)) n hits 0 0
+pub note-start : (p : ℕ → Bool) (n : ℕ) (hits : List ℕ) → length hits ≡ limit → Noting p (keep p (span 0 n)) n hits 0 0
 note-start p n hits e =
     let z : n - 0 ≡ n = omega arith in
     record { long = e; upto = omega arith; few = omega arith; holds = ap (λ (m : ℕ). keep p (span 0 m)) z }
@@ -43,30 +44,23 @@ module _ {p : ℕ → Bool} {vs : List ℕ} {n : ℕ} where
       keep-skip p n (to - i) i (omega arith) (λ j a u. f j a (omega arith)) ∙ ap (λ (m : ℕ). keep p (span m (n - m))) e in
       record { long = w .long; upto = l; few = omega (arith, w .few); holds = ap (λ (m : List ℕ). take k hits ++ m) (sym q) ∙ w .holds }
 
-  pub note-turn : {hits hits′ : List ℕ} {k k′ i : ℕ} (yes : Bool) → n ≤ 2000 → i < n → yes ≡ p i → hits′ ≡ cond yes (set hits k i) hits → k′ ≡ cond yes (k + 1) k → Noting p vs n hits k i → Noting p vs n hits′ k′ (i + 1)
+  -- one that passes is noted
+  pub note-turn : {hits : List ℕ} {k i : ℕ} → n ≤ limit → i < n → p i ≡ true → Noting p vs n hits k i → Noting p vs n (set hits k i) (k + 1) (i + 1)
   unfolding keep
-  note-turn {hits} {hits′} {k} {k′} {i} true m h e f g w =
+  note-turn {hits} {k} {i} m h e w =
       let b : k < length hits = omega (arith, w .long, w .few) in
       let r : List ℕ = keep p (span (suc i) (n - suc i)) in
-      let q : keep p (span i (n - i)) ≡ i ∷ r = rw (span-cons i n h, ← e) in
+      let q : keep p (span i (n - i)) ≡ i ∷ r = rw (span-cons i n h, e) in
       record {
-        long = ap length f ∙ length-set hits k i ∙ w .long;
+        long = length-set hits k i ∙ w .long;
         upto = omega arith;
         few = omega (arith, w .few);
         holds =
-            rw (f, g, add-one i, add-one k, take-suc-set hits k i b, append-assoc (take k hits) (i ∷ []) r)
+            rw (add-one i, add-one k, take-suc-set hits k i b, append-assoc (take k hits) (i ∷ []) r)
             (ap (λ (l : List ℕ). take k hits ++ l) (sym q) ∙ w .holds);
       }
-  note-turn {hits} {hits′} {k} {k′} {i} false m h e f g w =
-      let q : keep p (span i (n - i)) ≡ keep p (span (suc i) (n - suc i)) = rw (span-cons i n h, ← e) in
-      record {
-        long = ap length f ∙ w .long;
-        upto = omega arith;
-        few = omega (arith, w .few);
-        holds = rw (f, g, add-one i) (ap (λ (l : List ℕ). take k hits ++ l) (sym q) ∙ w .holds);
-      }
 
-  pub note-end : {hits : List ℕ} {k i : ℕ} → n ≤ 2000 → n ≤ i → Noting p vs n hits k i → Noted vs hits k
+  pub note-end : {hits : List ℕ} {k i : ℕ} → n ≤ limit → n ≤ i → Noting p vs n hits k i → Noted vs hits k
   unfolding keep
   note-end {hits} {k} {i} m h w =
       let e : keep p (span i (n - i)) ≡ [] = ap (keep p) (span-done i n h) in

@@ -1,84 +1,59 @@
-// The positions of the records that a proposal is short to, found in one walk over the table.
+// The records that a station on a channel, of a class at a site, is short to: one after the other, and their positions.
 ghost use mathlib.Core.Path.{_≡_};
-ghost use mathlib.Core.Bool.{cond};
-ghost use Prim.Native.Nat.{_+_, _<_};
-ghost use lib.ListN.{length, set};
-ghost use Rattle.part73.specs.TableA.{km as tableA};
-ghost use Rattle.spacing.specs.Limits.{Sound, Near};
-ghost use Rattle.spacing.specs.Pair.{assignment, short};
-ghost use Rattle.stations.specs.Image.{stationAt, judged};
-ghost use Rattle.stations.specs.declared.Judged.the-variants.{Table};
-ghost use Rattle.survey.specs.Ways.{asItStands, everyRecord};
-ghost use Rattle.nearby.specs.Positions.{shortPositions};
-ghost use Rattle.nearby.specs.Walk.{Asked, Columns, Noted};
+ghost use Rattle.part73.specs.TableA.{tableA};
+ghost use Rattle.spacing.specs.Pair.{sited};
+ghost use Rattle.survey.specs.Ways.{everyRecord};
+ghost use Rattle.nearby.specs.Positions.{shortPositions, Search, NextShort, Notes, Noted};
 
 mod nearness;
 
-use nearness::column_at;
-use nearness::columns_of;
-use nearness::next_near;
+pub use nearness::free_of;
+use nearness::next_held;
+use spacing::Limits;
+use spacing::Place;
 
-// Whether a station on a channel, of a class at a site, is short to the record at position i.
-fn is_short(
+// The first position from one on whose record the station is short to; the count where there is none.
+pub fn next_short(
     table: &[u8],
-    n: usize,
-    i: usize,
+    from: usize,
     channel: usize,
-    class: usize,
-    columns: &[u8; 256],
-    near: &[u64; 48],
-    lat: i32,
-    lon: i32,
-) -> bool
-    requires { ⌜ judged (now table) ≡ Table n ⌝ }
-    requires { ⌜ (i < n) × ((Columns channel (now columns)) × ((Near tableA class lat (now near)) × (Sound class lat lon))) ⌝ }
-    ensures { λ r. ⌜ r ≡ short (assignment channel class lat lon) (asItStands (stationAt (now (table .entry)) i)) ⌝ }
-{
-    let column = column_at(table, n, i, channel, columns);
-    if column == 4 {
-        return false;
-    }
-    let r = stations::station_at(table, i);
-    let theirs = r.class as usize;
-    let lat2 = r.latitude;
-    let lon2 = r.longitude;
-    spacing::short_in_column(column, class, near, lat, lon, theirs, lat2, lon2)
-}
-
-// One more position, where the test says so.
-fn note(yes: bool, hits: &mut [u16; 2000], k: usize, i: u16) -> usize
-    requires { ⌜ (length (now hits) ≡ 2000) × (k < 2000) ⌝ }
-    ensures { λ r. ⌜ (now (hits .exit) ≡ cond yes (set (now (hits .entry)) k i) (now (hits .entry))) × (r ≡ cond yes (k + 1) k) ⌝ }
-{
-    if yes {
-        hits[k] = i;
-        return k + 1;
-    }
-    k
-}
-
-// The positions of the records that the proposal is short to, found in one walk.
-pub fn find(
-    table: &[u8],
-    n: usize,
-    channel: usize,
-    class: usize,
-    lat: i32,
-    lon: i32,
-    hits: &mut [u16; 2000],
+    place: Place,
+    limits: &Limits,
+    free: &[bool; 256],
 ) -> usize
-    requires { ⌜ judged (now table) ≡ Table n ⌝ }
-    requires { ⌜ (Asked channel class lat lon) × (length (now hits) ≡ 2000) ⌝ }
-    ensures { λ r. ⌜ Noted (shortPositions everyRecord (now (table .entry)) n (assignment channel class lat lon)) (now (hits .exit)) r ⌝ }
+    requires { ⌜ Search (now table) from channel place (now limits) (now free) ⌝ }
+    ensures { λ r. ⌜ NextShort (now (table .entry)) (sited place channel) from r ⌝ }
 {
-    let columns = columns_of(channel);
-    let near = spacing::limits_of(class, lat);
-    let mut k: usize = 0;
-    let mut i = next_near(table, n, 0, channel, &columns);
+    let n = stations::count_of(table);
+    let mut i = next_held(table, from, free);
     while i < n {
-        let yes = is_short(table, n, i, channel, class, &columns, &near, lat, lon);
-        k = note(yes, hits, k, i as u16);
-        i = next_near(table, n, i + 1, channel, &columns);
+        if survey::short_at(table, i, channel, place, limits) {
+            return i;
+        }
+        i = next_held(table, i + 1, free);
+    }
+    i
+}
+
+// The positions of all of them, noted in one walk.
+pub fn note_short(
+    table: &[u8],
+    channel: usize,
+    place: Place,
+    hits: &mut [u16; stations::LIMIT],
+) -> usize
+    requires { ⌜ Notes (now table) channel place (now hits) ⌝ }
+    ensures { λ k. ⌜ Noted (shortPositions tableA everyRecord (now (table .entry)) (sited place channel)) (now (hits .exit)) k ⌝ }
+{
+    let n = stations::count_of(table);
+    let limits = spacing::limits_of(place);
+    let free = free_of(channel);
+    let mut k: usize = 0;
+    let mut i = next_short(table, 0, channel, place, &limits, &free);
+    while i < n {
+        hits[k] = i as u16;
+        k += 1;
+        i = next_short(table, i + 1, channel, place, &limits, &free);
     }
     k
 }

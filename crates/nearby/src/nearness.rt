@@ -1,95 +1,72 @@
-// Which records have a requirement against a channel: its columns, read once for a walk over the table.
+// Records to which no column applies, by their channels alone: passed over.
 ghost use mathlib.Core.Path.{_≡_};
-ghost use Prim.Native.Nat.{_+_, _%_, _≤_, _<_};
-ghost use Rattle.part73.specs.Columns.{gap, column};
-ghost use Rattle.spacing.specs.Pair.{columnFor};
-ghost use Rattle.stations.specs.Image.{stationAt, judged};
-ghost use Rattle.stations.specs.declared.Judged.the-variants.{Table};
-ghost use Rattle.nearby.specs.Walk.{Columns, Passed};
+ghost use mathlib.Core.Bool.{false};
+ghost use Prim.Native.Nat.{_%_, _≤_, _<_};
+ghost use lib.ListN.{length, getD};
+ghost use Rattle.stations.specs.Image.{stationAt, count};
+ghost use Rattle.nearby.specs.Positions.{Asked, Free, Held, ByChannel, Unheld};
 
-// The absolute difference of two channels, both counted from the same one.
-fn difference(x: u8, y: u8) -> u8
-    ensures { λ r. ⌜ r ≡ gap x y ⌝ }
+// The channels at a difference from one are not free.
+fn hold(free: &mut [bool; 256], channel: usize, d: usize)
+    requires { ⌜ (length (now free) ≡ 256) × ((Asked channel) × (d ≤ 54)) ⌝ }
+    ensures { λ _. ⌜ Held channel d (now (free .entry)) (now (free .exit)) ⌝ }
 {
-    if x < y { y - x } else { x - y }
+    let up = (channel + d) % 256;
+    let down = (channel - d) % 256;
+    free[up] = false;
+    free[down] = false;
 }
 
-// The column that a channel difference reads, in few steps; 4 where there is no requirement.
-fn column_of(d: u8) -> u8
-    ensures { λ r. ⌜ r ≡ column d ⌝ }
+// For each channel, at its number's last byte, whether no column applies to it and this one: made once for a walk and lent on.
+pub fn free_of(channel: usize) -> [bool; 256]
+    requires { ⌜ Asked channel ⌝ }
+    ensures { λ r. ⌜ Free channel r ⌝ }
 {
-    if d < 2 {
-        return d;
-    }
-    if d <= 3 {
-        return 2;
-    }
-    if d < 53 {
-        return 4;
-    }
-    if d <= 54 {
-        return 3;
-    }
-    4
+    let mut free = [true; 256];
+    hold(&mut free, channel, 0);
+    hold(&mut free, channel, 1);
+    hold(&mut free, channel, 2);
+    hold(&mut free, channel, 3);
+    hold(&mut free, channel, 53);
+    hold(&mut free, channel, 54);
+    free
 }
 
-// A channel's place from 201 on, from its low byte.
-fn place_of(low: u8) -> u8
-    ensures { λ r. ⌜ r ≡ (low + 55) % 256 ⌝ }
-{
-    if low < 201 { low + 55 } else { low - 201 }
-}
-
-// The column of each channel from 201 to 300 against a channel, by its low byte: read once for a walk and lent on.
-pub fn columns_of(channel: usize) -> [u8; 256]
-    requires { ⌜ (221 ≤ channel) × (channel ≤ 300) ⌝ }
-    ensures { λ r. ⌜ Columns channel r ⌝ }
-{
-    let x = (channel - 201) as u8;
-    let mut out = [0u8; 256];
-    let mut k: usize = 0;
-    while k < 256 {
-        out[k] = column_of(difference(x, place_of(k as u8)));
-        k += 1;
-    }
-    out
-}
-
-// The column of the record at position i; 4 where there is no requirement.
-pub fn column_at(table: &[u8], n: usize, i: usize, channel: usize, columns: &[u8; 256]) -> usize
-    requires { ⌜ judged (now table) ≡ Table n ⌝ }
-    requires { ⌜ (i < n) × (Columns channel (now columns)) ⌝ }
-    ensures { λ r. ⌜ r ≡ columnFor channel (stationAt (now (table .entry)) i .channel) ⌝ }
+// Whether the channel of the record at position i is free.
+fn is_free(table: &[u8], i: usize, free: &[bool; 256]) -> bool
+    requires { ⌜ (ByChannel (now table) i (now free)) × (i < count (now table)) ⌝ }
+    ensures { λ r. ⌜ r ≡ getD (now (free .entry)) (stationAt (now (table .entry)) i .channel % 256) false ⌝ }
 {
     let r = stations::station_at(table, i);
     let c = r.channel as usize;
-    columns[c % 256] as usize
+    free[c % 256]
 }
 
-// The first position from i on that has a requirement, n where there is none: four records a turn.
-pub fn next_near(table: &[u8], n: usize, from: usize, channel: usize, columns: &[u8; 256]) -> usize
-    requires { ⌜ judged (now table) ≡ Table n ⌝ }
-    requires { ⌜ (from ≤ n) × (Columns channel (now columns)) ⌝ }
-    ensures { λ r. ⌜ Passed (now (table .entry)) n channel from r ⌝ }
+// The first position from one on whose record's channel is not free, the count where there is none: four records a turn.
+pub fn next_held(table: &[u8], from: usize, free: &[bool; 256]) -> usize
+    requires { ⌜ ByChannel (now table) from (now free) ⌝ }
+    ensures { λ r. ⌜ Unheld (now (table .entry)) (now (free .entry)) from r ⌝ }
 {
+    let n = stations::count_of(table);
+    let stop = stations::turns_end(table);
     let mut j = from;
-    while j + 4 <= n {
-        if column_at(table, n, j, channel, columns) != 4 {
+    while j < stop {
+        if !is_free(table, j, free) {
             return j;
         }
-        if column_at(table, n, j + 1, channel, columns) != 4 {
+        if !is_free(table, j + 1, free) {
             return j + 1;
         }
-        if column_at(table, n, j + 2, channel, columns) != 4 {
+        if !is_free(table, j + 2, free) {
             return j + 2;
         }
-        if column_at(table, n, j + 3, channel, columns) != 4 {
+        if !is_free(table, j + 3, free) {
             return j + 3;
         }
         j += 4;
     }
     while j < n {
-        if column_at(table, n, j, channel, columns) != 4 {
+        if !is_free(table, j, free) {
             return j;
         }
         j += 1;

@@ -8,34 +8,39 @@ use borrow.Author.Tests.{ne-eqb}
 use Rattle.ground.specs.Guard.{given}
 use Rattle.ground.proofs.Ranges.{all3, at3}
 use Rattle.part73.specs.Columns.{column, none}
-use Rattle.part73.specs.TableA.{km, relation, tableA}
+use Rattle.part73.specs.TableA.{tableA, relation, relations}
 use Rattle.part73.specs.Separations.{Separations}
-use Rattle.part73.proofs.Symmetry.{km-swap}
+use Rattle.part73.proofs.Symmetry.{tableA-swap}
 
-all-above : T (all3 8 8 4 (λ a b c. ltb 0 (km a b c)))
-unfolding km relation tableA
+all-above : T (all3 8 8 4 (λ a b c. ltb 0 (tableA a b c)))
+unfolding tableA relation relations
 all-above = tt
 
-all-past : T (all3 8 8 1 (λ a b c. eqb (km a b none) 0))
-unfolding km relation tableA
-all-past = tt
+all-end : T (all3 8 8 1 (λ a b c. eqb (tableA a b none) 0))
+unfolding tableA relation relations
+all-end = tt
 
-all-falls : T (all3 8 8 3 (λ a b c. ltb (km a b (suc c)) (km a b c)))
-unfolding km relation tableA
+all-falls : T (all3 8 8 3 (λ a b c. ltb (tableA a b (suc c)) (tableA a b c)))
+unfolding tableA relation relations
 all-falls = tt
 
-all-most : T (all3 8 8 4 (λ a b c. leb (km a b c) 290))
-unfolding km relation tableA
+all-most : T (all3 8 8 4 (λ a b c. leb (tableA a b c) 290))
+unfolding tableA relation relations
 all-most = tt
 
-pub table-a : Separations km
+all-widest : T (all3 8 8 1 (λ a b c. leb (tableA a b 0) (tableA a 7 0)))
+unfolding tableA relation relations
+all-widest = tt
+
+pub table-a : Separations tableA
 table-a =
     record {
-      either = km-swap;
-      above = λ a b c ha hb hc. ltb→lt _ _ (at3 8 8 4 (λ a b c. ltb 0 (km a b c)) all-above a b c ha hb hc);
-      past = λ a b ha hb. eqb→eq _ _ (at3 8 8 1 (λ a b c. eqb (km a b none) 0) all-past a b 0 ha hb (lit< tt));
-      falls = λ a b c ha hb hc. ltb→lt _ _ (at3 8 8 3 (λ a b c. ltb (km a b (suc c)) (km a b c)) all-falls a b c ha hb hc);
-      most = λ a b c ha hb hc. leb→le _ _ (at3 8 8 4 (λ a b c. leb (km a b c) 290) all-most a b c ha hb hc);
+      either = tableA-swap;
+      above = λ a b c ha hb hc. ltb→lt _ _ (at3 8 8 4 (λ a b c. ltb 0 (tableA a b c)) all-above a b c ha hb hc);
+      ends = λ a b ha hb. eqb→eq _ _ (at3 8 8 1 (λ a b c. eqb (tableA a b none) 0) all-end a b 0 ha hb (lit< tt));
+      falls = λ a b c ha hb hc. ltb→lt _ _ (at3 8 8 3 (λ a b c. ltb (tableA a b (suc c)) (tableA a b c)) all-falls a b c ha hb hc);
+      widest = λ a b ha hb. leb→le _ _ (at3 8 8 1 (λ a b c. leb (tableA a b 0) (tableA a 7 0)) all-widest a b 0 ha hb (lit< tt));
+      most = λ a b c ha hb hc. leb→le _ _ (at3 8 8 4 (λ a b c. leb (tableA a b c) 290) all-most a b c ha hb hc);
     }
 
 -- ---- the columns

@@ -5,7 +5,7 @@ use mathlib.Core.List.{[]}
 use Prim.Native.Nat.{ℕ, _+_, _-_, _*_, _/_, _≤_, _<_}
 use lib.Dec.{T, leb, ltb, eqb, ltb→lt, eqb→eq, le→leb, lit<}
 use lib.ListN.{getD}
-use Rattle.part73.specs.TableA.{relation, tableA, km}
+use Rattle.part73.specs.TableA.{relation, relations, tableA}
 use Rattle.part73.specs.Reading.{rows, RowOf}
 use Rattle.ground.proofs.Ranges.{all3, at3, left, right}
 
@@ -17,15 +17,15 @@ implies true b t h = t
 implies false b t h = absurd h
 
 test : ℕ → ℕ → ℕ → Bool
-test lo hi column = not (leb lo hi) || (ltb (rowOf lo hi) 36 && eqb (getD (getD rows (rowOf lo hi) []) column 0) (km lo hi column))
+test lo hi column = not (leb lo hi) || (ltb (rowOf lo hi) 36 && eqb (getD (getD rows (rowOf lo hi) []) column 0) (tableA lo hi column))
 
 tested : T (all3 8 8 4 test)
-unfolding test rows tableA relation km
+unfolding test rows relations relation tableA
 tested = tt
 
 pub rule : (lo hi : ℕ) → lo < 8 → lo ≤ hi → hi < 8 → RowOf lo hi (rowOf lo hi)
 unfolding test
 rule lo hi l o h = record { within = ltb→lt _ _ (left (ltb (rowOf lo hi) 36) _ (tests 0 (lit< tt))); at = λ c k. eqb→eq _ _ (right (ltb (rowOf lo hi) 36) _ (tests c k)) }
   where
-    tests : (c : ℕ) → c < 4 → T (ltb (rowOf lo hi) 36 && eqb (getD (getD rows (rowOf lo hi) []) c 0) (km lo hi c))
+    tests : (c : ℕ) → c < 4 → T (ltb (rowOf lo hi) 36 && eqb (getD (getD rows (rowOf lo hi) []) c 0) (tableA lo hi c))
     tests c k = implies (leb lo hi) _ (at3 8 8 4 test tested lo hi c l h k) (le→leb lo hi o)

@@ -5,7 +5,7 @@ use mathlib.Core.Bool.{_&&_, and-comm, or-comm}
 use mathlib.Core.List.{List, [], _∷_}
 use Prim.Native.Nat.{ℕ}
 use lib.Dec.{eqb}
-use Rattle.part73.specs.TableA.{Relation, _to_∶_, between, relation, tableA, km}
+use Rattle.part73.specs.TableA.{Relation, _to_∶_, between, relation, relations, tableA}
 
 between-swap : (a b : ℕ) (r : Relation) → between a b r ≡ between b a r
 between-swap a b (x to y ∶ s) =
@@ -17,6 +17,6 @@ unfolding relation
 relation-swap a b [] = refl
 relation-swap a b (r ∷ rs) = rw (between-swap a b r, relation-swap a b rs)
 
-pub km-swap : (a b column : ℕ) → km a b column ≡ km b a column
-unfolding km
-km-swap a b column = rw (relation-swap a b tableA)
+pub tableA-swap : (a b column : ℕ) → tableA a b column ≡ tableA b a column
+unfolding tableA
+tableA-swap a b column = rw (relation-swap a b relations)

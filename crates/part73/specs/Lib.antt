@@ -1,3 +1,4 @@
+pub mod Channels
 pub mod Classes
 pub mod Columns
 pub mod TableA

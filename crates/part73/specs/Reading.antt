@@ -3,18 +3,18 @@ use mathlib.Core.Path.{_≡_}
 use mathlib.Core.List.{List, [], map}
 use Prim.Native.Nat.{ℕ, _/_, _%_, _<_}
 use lib.ListN.{getD}
-use Rattle.part73.specs.TableA.{columns, tableA, km}
+use Rattle.part73.specs.TableA.{columns, relations, tableA}
 
 -- the rows of four, one beside the other
 unfoldable pub rows : List (List ℕ)
-unfolding tableA
-rows = map columns tableA
+unfolding relations
+rows = map columns relations
 
 -- the row r is that of the classes a and b
 pub record RowOf (a b r : ℕ) : Type 0 where
   pub within : r < 36
-  pub at : (c : ℕ) → c < 4 → getD (getD rows r []) c 0 ≡ km a b c
+  pub at : (c : ℕ) → c < 4 → getD (getD rows r []) c 0 ≡ tableA a b c
 
 -- the four separations of the class a against each class, one class after the other
 pub record Against (a : ℕ) (out : List ℕ) : Type 0 where
-  pub at : (k : ℕ) → k < 32 → getD out k 0 ≡ km a (k / 4) (k % 4)
+  pub at : (k : ℕ) → k < 32 → getD out k 0 ≡ tableA a (k / 4) (k % 4)

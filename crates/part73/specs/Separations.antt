@@ -9,8 +9,10 @@ pub record Separations (km : ℕ → ℕ → ℕ → ℕ) : Type 0 where
   -- no entry is 0
   pub above : (a b c : ℕ) → a < 8 → b < 8 → c < 4 → 0 < km a b c
   -- there is none past the fourth column
-  pub past : (a b : ℕ) → a < 8 → b < 8 → km a b none ≡ 0
+  pub ends : (a b : ℕ) → a < 8 → b < 8 → km a b none ≡ 0
   -- the columns of a row fall strictly
   pub falls : (a b c : ℕ) → a < 8 → b < 8 → c < 3 → km a b (suc c) < km a b c
+  -- against the last class a class keeps the most
+  pub widest : (a b : ℕ) → a < 8 → b < 8 → km a b 0 ≤ km a 7 0
   -- none is over 290
   pub most : (a b c : ℕ) → a < 8 → b < 8 → c < 4 → km a b c ≤ 290

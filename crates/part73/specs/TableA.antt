@@ -12,8 +12,8 @@ pub data Relation : Type 0 where
   _to_∶_ : ℕ → ℕ → List ℕ → Relation
 
 infix 5 _to_∶_
-unfoldable pub tableA : List Relation
-tableA =
+unfoldable pub relations : List Relation
+relations =
     (A to A ∶ 115 ∷ 72 ∷ 31 ∷ 10 ∷ []) ∷
     (A to B1 ∶ 143 ∷ 96 ∷ 48 ∷ 12 ∷ []) ∷
     (A to B ∶ 178 ∷ 113 ∷ 69 ∷ 15 ∷ []) ∷
@@ -65,5 +65,5 @@ relation a b [] = []
 relation a b (r ∷ rs) = cond (between a b r) (columns r) (relation a b rs)
 
 -- the separation of the classes a and b at a column; 0 where there is none
-unfoldable pub km : ℕ → ℕ → ℕ → ℕ
-km a b column = getD (relation a b tableA) column 0
+unfoldable pub tableA : ℕ → ℕ → ℕ → ℕ
+tableA a b column = getD (relation a b relations) column 0

@@ -3,8 +3,21 @@ ghost use mathlib.Core.Path.{_≡_};
 ghost use Prim.Native.Nat.{_≤_, _<_};
 ghost use Rattle.part73.specs.Classes.{isClass, isZone, permits};
 ghost use Rattle.part73.specs.Columns.{gap, column};
-ghost use Rattle.part73.specs.TableA.{km};
+ghost use Rattle.part73.specs.TableA.{tableA};
 ghost use Rattle.part73.specs.Reading.{rows, RowOf, Against};
+
+// The channels that a new or a moved station may have.
+pub const LOWEST: usize = 221;
+
+pub const HIGHEST: usize = 300;
+
+// The same, as they are asked for.
+pub const LOWEST_ASKED: u32 = LOWEST as u32;
+
+pub const HIGHEST_ASKED: u32 = HIGHEST as u32;
+
+// How many they are.
+pub const CHANNEL_COUNT: usize = 80;
 
 // One row for each pair of classes, in the order of the document; in a row, the four columns.
 const TABLE_A: [[u16; 4]; 36] = [
@@ -72,7 +85,7 @@ fn row_of(a: usize, b: usize) -> usize
 // The separation of two classes, in any order, at a column.
 pub fn separation(a: usize, b: usize, column: usize) -> u16
     requires { ⌜ (a < 8) × (b < 8) × (column < 4) ⌝ }
-    ensures { λ r. ⌜ r ≡ km a b column ⌝ }
+    ensures { λ r. ⌜ r ≡ tableA a b column ⌝ }
 {
     let row = row_of(a, b);
     let table = table_rows();

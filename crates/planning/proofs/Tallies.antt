@@ -8,7 +8,7 @@ use native.Mathlib.Omega.{arith}
 use native.Mathlib.Decide.{ℕ-discrete}
 use lib.Dec.{eqb}
 use borrow.Author.Tests.{eq-eqb, ne-eqb}
-use Rattle.survey.specs.Marks.{join, seen}
+use Rattle.survey.specs.Marks.{many, join, seen}
 use Rattle.planning.specs.Flags.{Mark}
 use Rattle.planning.proofs.Single.{First, FreeBut, free-but, one, two, other}
 
@@ -16,7 +16,7 @@ use Rattle.planning.proofs.Single.{First, FreeBut, free-but, one, two, 
 pub data Tally (way : ℕ → Bool) (n : ℕ) : ℕ → Type 0 where
   nobody : First way 0 n n → Tally way n 0
   lone : (a : ℕ) → a < n → First way 0 n a → First way (a + 1) n n → Tally way n (suc a)
-  several : (a b : ℕ) → a < n → First way 0 n a → First way (a + 1) n b → b < n → Tally way n 65535
+  several : (a b : ℕ) → a < n → First way 0 n a → First way (a + 1) n b → b < n → Tally way n many
 
 module _ (way : ℕ → Bool) where
   -- one position more
@@ -36,7 +36,7 @@ module _ (way : ℕ → Bool) where
   none-left : (n : ℕ) → First way (n + 1) (suc n) (suc n)
   none-left n = record { low = omega arith; high = omega arith; passed = λ k lo hi. absurd (omega arith); hit = λ h. absurd (omega arith) }
 
-  join-some : (a n : ℕ) → join (suc a) n ≡ 65535
+  join-some : (a n : ℕ) → join (suc a) n ≡ many
   unfolding join
   join-some a n = rw (ne-eqb (suc a) 0 (λ q. omega arith))
 
@@ -61,11 +61,11 @@ module _ (way : ℕ → Bool) where
   mark-of n v (several a b l f g h) = inr refl
 
   -- nobody but perhaps the one at i, by the mark
-  pub but-mark : (n i v : ℕ) → n ≤ 65534 → i < n → Tally way n v → FreeBut n way i ≡ (eqb v 0 || eqb v (suc i))
+  pub but-mark : (n i v : ℕ) → n < many → i < n → Tally way n v → FreeBut n way i ≡ (eqb v 0 || eqb v (suc i))
   but-mark n i v few h (nobody f) = free-but n way i n f (omega arith)
   but-mark n i v few h (lone a l f g) = go (ℕ-discrete a i)
     where
       go : Dec (a ≡ i) → FreeBut n way i ≡ (eqb (suc a) 0 || eqb (suc a) (suc i))
       go (yes e) = rw (← e, ne-eqb (suc a) 0 (λ q. omega arith), eq-eqb (suc a) (suc a) refl) (one n way a f l n g (omega arith))
       go (no ne) = rw (ne-eqb (suc a) 0 (λ q. omega arith), ne-eqb (suc a) (suc i) (λ q. ne (omega arith))) (other n way i a l ne (f .hit l))
-  but-mark n i v few h (several a b l f g k) = two n way a f l b g k i ∙ sym (ne-eqb 65535 (suc i) (λ q. omega arith))
+  but-mark n i v few h (several a b l f g k) = two n way a f l b g k i ∙ sym (ne-eqb many (suc i) (λ q. omega arith))

@@ -1,67 +1,84 @@
--- Inside: where the lone blocker of each new channel may go, as flags. Assumes nothing.
+-- Inside: where the lone blocker of each new channel may go, as flags: a row of 80 for each new channel. Assumes nothing.
 use Prim.Native.Nat.{ℕ, _+_, _-_, _*_, _<_, _≤_}
 use mathlib.Core.Bool.{Bool, false, not, _&&_, _||_}
 use mathlib.Core.List.{List}
 use mathlib.Core.Logic.{_⊎_}
 use mathlib.Core.Path.{_≡_}
 use lib.Dec.{eqb}
-use lib.ListN.{length, getD}
-use Rattle.part73.specs.Columns.{gap}
-use Rattle.spacing.specs.Limits.{hits}
-use Rattle.stations.specs.Image.{stationAt}
+use lib.ListN.{length, getD, take, drop}
+use Rattle.part73.specs.Channels.{lowest, highest, channelCount}
+use Rattle.spacing.specs.Pair.{Assignment, shortBy}
+use Rattle.stations.specs.Image.{stationAt, count}
+use Rattle.stations.specs.Lists.{movable}
 use Rattle.stations.specs.declared.Station.{Station}
-use Rattle.survey.specs.Ways.{onChannel, blocks}
-use Rattle.survey.specs.Marks.{many, seen, Marked}
+use Rattle.survey.specs.Ways.{onChannel}
+use Rattle.survey.specs.Marks.{blocks, many, seen, markOf, Marked}
+use Rattle.survey.specs.declared.Channels.{Channels}
 use Rattle.planning.specs.Scene.{Scene, allowed}
 
--- where the flags of the new channel c start; those of the channel `first` start at 0
-abbrev pub start : ℕ → ℕ → ℕ
-start first c = 80 * (c - first)
+-- ---- marks
 
--- where the flag of a new and a moved channel stands
-abbrev pub place : ℕ → ℕ → ℕ → ℕ
-place first c m = start first c + (m - 221)
-
--- the list reaches to the end of the flags of the new channel c
-abbrev pub Room : ℕ → ℕ → List Bool → Type 0
-Room first c moves = start first c + 80 ≤ length moves
-
--- a mark that a table of n stations can have
+-- one that a table of n stations can have
 abbrev pub Mark : ℕ → ℕ → Type 0
 Mark n v = (v ≤ n) ⊎ (v ≡ many)
 
--- a mark of one alone
+-- one of a station alone
 abbrev pub Lone : ℕ → Type 0
 Lone v = (0 < v) × (v < many)
 
--- the flags of one new channel are f, and the others are as they were
-pub record Rowed (f : ℕ → Bool) (first c : ℕ) (entry exit : List Bool) : Type 0 where
-  pub here : (m : ℕ) → 221 ≤ m → m ≤ 300 → getD exit (place first c m) false ≡ f m
-  pub other : (k : ℕ) → (k < start first c) ⊎ (start first c + 80 ≤ k) → getD exit k false ≡ getD entry k false
+-- the station that a mark is of
+abbrev pub stationOf : List ℕ → ℕ → Station
+stationOf s v = stationAt s (v - 1)
 
--- the marks of the station that `whose` marks, from its own site
-pub record Kept (look : Station → Bool) (s : List ℕ) (n whose : ℕ) (kept : List ℕ) : Type 0 where
-  pub long : length kept ≡ 80
-  pub of : 0 < whose → Marked (λ m j. blocks look s (onChannel m (stationAt s (whose - 1))) j) 221 300 n kept
+-- a mark is of one station alone, and that one is movable
+abbrev pub mayMove : List ℕ → ℕ → Bool
+mayMove s v = not (eqb v 0) && (not (eqb v many) && movable (stationOf s v))
 
--- the flags from place p on are down
-pub record Down (p : ℕ) (moves : List Bool) : Type 0 where
-  pub at : (k : ℕ) → p ≤ k → getD moves k false ≡ false
+-- the marks from the site of the station that `whose` marks
+pub record Kept (km : ℕ → ℕ → ℕ → ℕ) (look : Station → Bool) (s : List ℕ) (whose : ℕ) (kept : List ℕ) : Type 0 where
+  pub long : length kept ≡ channelCount
+  pub of : 0 < whose → Marked (λ m j. blocks km look s (onChannel m (stationOf s whose)) j) lowest highest (count s) kept
 
--- the flags of the new channel c are right, and the others are as they were
-pub record Turned (t : Scene) (first c v : ℕ) (entry exit : List Bool) : Type 0 where
-  pub here : Lone v → (m : ℕ) → 221 ≤ m → m ≤ 300 → getD exit (place first c m) false ≡ allowed t c (v - 1) m
-  pub other : (k : ℕ) → (k < start first c) ⊎ (start first c + 80 ≤ k) → getD exit k false ≡ getD entry k false
+-- ---- where a marked station may go
 
--- the flags of the new channels from first to before c are right, and those from c on are down
+-- not to its own channel; the mark there, from its site, is of nobody or its own; and the new one does not meet it there
+abbrev pub goes : ℕ → ℕ → ℕ → ℕ → Bool → Bool
+goes there mark m own meets = not (eqb m own) && ((eqb there 0 || eqb there mark) && not meets)
+
+-- the station r, by the marks from its site and a table of separations
+abbrev pub goesBy : (ℕ → ℕ → ℕ → ℕ) → Assignment → Station → ℕ → List ℕ → ℕ → Bool
+goesBy km new r mark kept m = goes (markOf kept m) mark m (r .channel) (shortBy km new (onChannel m r))
+
+-- ---- flags
+
+-- the flag of a channel in a row
+abbrev pub flagOf : List Bool → ℕ → Bool
+flagOf row m = getD row (m - lowest) false
+
+-- where the row of the new channel c starts; that of the channel `first` starts at 0
+abbrev pub start : ℕ → ℕ → ℕ
+start first c = channelCount * (c - first)
+
+abbrev pub rowOf : ℕ → List Bool → ℕ → List Bool
+rowOf first moves c = take channelCount (drop (start first c) moves)
+
+-- the flags hold a row for each new channel
+abbrev pub Room : Channels → List Bool → Type 0
+Room c moves = start (c .first) (c .last) + channelCount ≤ length moves
+
+-- the flags of a row are f
+pub record Rowed (f : ℕ → Bool) (row : List Bool) : Type 0 where
+  pub at : (m : ℕ) → lowest ≤ m → m ≤ highest → flagOf row m ≡ f m
+
+-- those of the new channels from c on are down
+pub record Down (first c : ℕ) (moves : List Bool) : Type 0 where
+  pub at : (x : ℕ) → c ≤ x → Rowed (λ m. false) (rowOf first moves x)
+
+-- a row says where the station that v marks may go, if it marks one alone
+abbrev pub Right : Scene → ℕ → ℕ → List Bool → Type 0
+Right t c v row = Lone v → Rowed (allowed t c (v - 1)) row
+
+-- the rows of the new channels before c are right, and those from c on are down
 pub record Planned (t : Scene) (first c : ℕ) (moves : List Bool) : Type 0 where
-  pub down : Down (start first c) moves
-  pub done : (x : ℕ) → first ≤ x → x < c → Lone (seen (t .new x) (t .size)) → (m : ℕ) → 221 ≤ m → m ≤ 300 → getD moves (place first x m) false ≡ allowed t x (seen (t .new x) (t .size) - 1) m
-
--- whether the station marked `mark`, on own, may go to m, whose mark from its site is `there`
-abbrev pub goes : ℕ → ℕ → ℕ → ℕ → ℕ → ℕ → Bool → Bool
-goes there mark m own c w far = not (eqb m own) && ((eqb there 0 || eqb there mark) && not (hits w far (gap c m)))
-
--- the same by the scene: the station that `mark` marks, the marks from its own site, and the new one on c
-abbrev pub goesIn : Scene → List ℕ → ℕ → ℕ → ℕ → Bool
-goesIn t kept mark c m = not (eqb m (t .channel (mark - 1))) && ((eqb (getD kept (m - 221) 0) 0 || eqb (getD kept (m - 221) 0) mark) && not (t .meets (mark - 1) m c))
+  pub done : (x : ℕ) → first ≤ x → x < c → Right t x (seen (t .new x) (t .size)) (rowOf first moves x)
+  pub down : Down first c moves

@@ -1,2 +1,3 @@
-pub mod Flags
 pub mod Scene
+pub mod Flags
+pub mod Planning

@@ -1,15 +1,17 @@
--- 01, The questions, Arrange: who is short to whom, of the stations and a new one, and what is clean. Assumes nothing.
+-- Inside: who is short to whom, of the stations by their positions and a new one, and what is clean. Assumes nothing.
 use Prim.Native.Nat.{ℕ}
 use mathlib.Core.Bool.{Bool, not, _&&_, _||_}
 use mathlib.Core.List.{List}
 use lib.Dec.{eqb}
-use lib.IntN.{ℤ}
 use Rattle.ground.specs.Lists.{span, every}
-use Rattle.spacing.specs.Pair.{assignment, short}
-use Rattle.stations.specs.Image.{stationAt}
+use Rattle.part73.specs.TableA.{tableA}
+use Rattle.spacing.specs.Pair.{Assignment, sited, shortBy}
+use Rattle.spacing.specs.declared.Place.{Place}
+use Rattle.stations.specs.Image.{stationAt, count}
 use Rattle.stations.specs.Lists.{movable as isMovable}
 use Rattle.stations.specs.declared.Station.{Station}
-use Rattle.survey.specs.Ways.{onChannel, blocks}
+use Rattle.survey.specs.Ways.{onChannel, everyRecord}
+use Rattle.survey.specs.Marks.{blocks}
 
 -- the stations by position, and who is short to whom
 pub record Scene : Type 0 where
@@ -24,24 +26,24 @@ pub record Scene : Type 0 where
   -- the new station, on c, is short to the one at i, on m
   pub meets : ℕ → ℕ → ℕ → Bool
 
--- the scene of a table, of its records that are looked at, and a new station of a class at a site
-unfoldable pub scene : (Station → Bool) → List ℕ → ℕ → ℕ → ℤ → ℤ → Scene
-scene look s n class latitude longitude =
+-- the scene of a table, of its records that are looked at, and a new station, by a table of separations
+unfoldable pub scene : (ℕ → ℕ → ℕ → ℕ) → (Station → Bool) → List ℕ → (ℕ → Assignment) → Scene
+scene km look s new =
     record {
-      size = n;
+      size = count s;
       id = λ j. stationAt s j .id;
       channel = λ j. stationAt s j .channel;
       movable = λ j. look (stationAt s j) && isMovable (stationAt s j);
-      new = λ c j. blocks look s (assignment c class latitude longitude) j;
-      moved = λ i m j. blocks look s (onChannel m (stationAt s i)) j;
-      meets = λ i m c. short (assignment c class latitude longitude) (onChannel m (stationAt s i));
+      new = λ c j. blocks km look s (new c) j;
+      moved = λ i m j. blocks km look s (onChannel m (stationAt s i)) j;
+      meets = λ i m c. shortBy km (new c) (onChannel m (stationAt s i));
     }
 
--- the new station on c is short to nobody
-unfoldable pub clear : Scene → ℕ → Bool
-clear t c = every (λ j. not (t .new c j)) (span 0 (t .size))
+-- that of a question: by Table A, every record
+abbrev pub sceneOf : List ℕ → Place → Scene
+sceneOf s p = scene tableA everyRecord s (sited p)
 
--- to nobody other than the one at i
+-- the new station on c is short to nobody other than the one at i
 unfoldable pub newBut : Scene → ℕ → ℕ → Bool
 newBut t i c = every (λ j. eqb j i || not (t .new c j)) (span 0 (t .size))
 
@@ -49,7 +51,6 @@ newBut t i c = every (λ j. eqb j i || not (t .new c j)) (span 0 (t .size))
 unfoldable pub movedBut : Scene → ℕ → ℕ → Bool
 movedBut t i m = every (λ j. eqb j i || not (t .moved i m j)) (span 0 (t .size))
 
--- with the new station on c, the one at i may go to m: it is movable, m is not its own channel, and neither the new
--- station nor the moved one is short to anybody, each other included
+-- with the new station on c, the one at i may go to m
 unfoldable pub allowed : Scene → ℕ → ℕ → ℕ → Bool
-allowed t c i m = t .movable i && (newBut t i c && (not (eqb m (t .channel i)) && (movedBut t i m && not (t .meets i m c))))
+allowed t c i m = t .movable i && (not (eqb m (t .channel i)) && (movedBut t i m && (newBut t i c && not (t .meets i m c))))

@@ -1,37 +1,27 @@
-// Where the lone blocker of a new channel may go: 80 flags for each new channel, from the first one asked for.
+// Where the lone blocker of a new channel may go: a row of flags for each new channel, from the first one asked for.
 ghost use mathlib.Core.Path.{_≡_};
-ghost use mathlib.Core.Bool.{not, _&&_, _||_};
-ghost use Prim.Native.Nat.{suc, _-_, _≤_, _<_};
+ghost use mathlib.Core.Bool.{_||_};
+ghost use Prim.Native.Nat.{suc};
 ghost use lib.Dec.{eqb};
-ghost use lib.ListN.{getD};
-ghost use Rattle.part73.specs.TableA.{km as tableA};
-ghost use Rattle.spacing.specs.Limits.{Sound, Limits, hits};
-ghost use Rattle.stations.specs.Image.{stationAt, judged};
-ghost use Rattle.stations.specs.Lists.{movable};
-ghost use Rattle.stations.specs.declared.Judged.the-variants.{Table};
+ghost use lib.ListN.{length};
+ghost use Rattle.part73.specs.Channels.{channelCount};
+ghost use Rattle.part73.specs.Columns.{gap};
+ghost use Rattle.part73.specs.TableA.{tableA};
+ghost use Rattle.spacing.specs.Pair.{sited};
+ghost use Rattle.spacing.specs.Reaching.{hits};
 ghost use Rattle.survey.specs.Ways.{everyRecord};
-ghost use Rattle.survey.specs.Marks.{many, seen, Marked};
-ghost use Rattle.planning.specs.Scene.{scene};
-ghost use Rattle.planning.specs.Flags.{start, Room, Mark, Rowed, Kept, Planned, Down, Turned, goes, goesIn};
-
-// The mark of more than one.
-pub const MANY: u16 = 65535;
-
-// Short at this difference, by what is reached.
-fn hit(d: usize, w: usize, far: bool) -> bool
-    ensures { λ r. ⌜ r ≡ hits w far d ⌝ }
-{
-    if d < w {
-        return true;
-    }
-    if d == 53 {
-        return far;
-    }
-    if d == 54 {
-        return far;
-    }
-    false
-}
+ghost use Rattle.survey.specs.Marks.{markOf};
+ghost use Rattle.planning.specs.Scene.{sceneOf};
+ghost use Rattle.planning.specs.Flags.{stationOf, mayMove, Kept, goes, goesBy, Rowed, Planned};
+ghost use Rattle.planning.specs.Planning.{Surveyed, Resurvey, Flagging, Planning};
+use part73::CHANNEL_COUNT;
+use part73::HIGHEST;
+use part73::LOWEST;
+use spacing::Limits;
+use spacing::Place;
+use spacing::Reach;
+use survey::Channels;
+use survey::MANY;
 
 // A mark of nobody, or of the station itself.
 fn free(there: u16, mark: u16) -> bool
@@ -44,47 +34,46 @@ fn free(there: u16, mark: u16) -> bool
 }
 
 // Whether the lone blocker of c may go to m: not to its own channel, and short to no other and not to the new station.
-fn may_go(there: u16, mark: u16, m: usize, own: usize, c: usize, w: usize, far: bool) -> bool
-    ensures { λ r. ⌜ r ≡ goes there mark m own c w far ⌝ }
+fn may_go(there: u16, mark: u16, m: usize, own: usize, c: usize, steps: usize, far: bool) -> bool
+    ensures { λ r. ⌜ r ≡ goes there mark m own (hits (record { steps = steps; far = far }) (gap c m)) ⌝ }
 {
     if m == own {
         return false;
     }
     if free(there, mark) {
-        return !hit(part73::gap_of(c, m), w, far);
+        return !spacing::is_hit(Reach { steps, far }, part73::gap_of(c, m));
     }
     false
 }
 
-// The flags of one new channel: where its lone blocker may go.
+// The row of one new channel: where its lone blocker may go.
 fn fill_row(
-    kept: &[u16; 80],
+    kept: &[u16; CHANNEL_COUNT],
     mark: u16,
     own: usize,
-    first: usize,
     c: usize,
-    w: usize,
-    far: bool,
-    moves: &mut [bool],
+    reach: Reach,
+    row: &mut [bool],
 )
-    requires { ⌜ (first ≤ c) × (Room first c (now moves)) ⌝ }
-    ensures { λ _. ⌜ Rowed (λ m. goes (getD (now (kept .entry)) (m - 221) 0) mark m own c w far) first c (now (moves .entry)) (now (moves .exit)) ⌝ }
+    requires { ⌜ length (now row) ≡ channelCount ⌝ }
+    ensures { λ _. ⌜ Rowed (λ m. goes (markOf (now (kept .entry)) m) mark m own (hits reach (gap c m))) (now (row .exit)) ⌝ }
 {
-    let mut m: usize = 221;
-    while m <= 300 {
-        let k = m - 221;
-        let p = 80 * (c - first) + k;
+    // Taken apart here, so that the loop does several flags at a time.
+    let steps = reach.steps;
+    let far = reach.far;
+    let mut m = LOWEST;
+    while m <= HIGHEST {
+        let k = m - LOWEST;
         let there = kept[k];
-        moves[p] = may_go(there, mark, m, own, c, w, far);
+        row[k] = may_go(there, mark, m, own, c, steps, far);
         m += 1;
     }
 }
 
 // Whether a mark is of one station alone, and that one is movable.
-fn may_move(table: &[u8], n: usize, mark: u16) -> bool
-    requires { ⌜ judged (now table) ≡ Table n ⌝ }
-    requires { ⌜ Mark n mark ⌝ }
-    ensures { λ r. ⌜ r ≡ (not (eqb mark 0) && (not (eqb mark many) && movable (stationAt (now (table .entry)) (mark - 1)))) ⌝ }
+fn may_move(table: &[u8], mark: u16) -> bool
+    requires { ⌜ Surveyed (now table) mark ⌝ }
+    ensures { λ r. ⌜ r ≡ mayMove (now (table .entry)) mark ⌝ }
 {
     if mark == 0 {
         return false;
@@ -97,118 +86,71 @@ fn may_move(table: &[u8], n: usize, mark: u16) -> bool
 }
 
 // The marks from the site of the station that `mark` marks, unless they are those that are kept.
-fn keep(table: &[u8], n: usize, mark: u16, whose: u16, kept: &mut [u16; 80])
-    requires { ⌜ judged (now table) ≡ Table n ⌝ }
-    requires { ⌜ (Kept everyRecord (now table) n whose (now kept)) × ((0 < mark) × (mark ≤ n)) ⌝ }
-    ensures { λ _. ⌜ Kept everyRecord (now (table .entry)) n mark (now (kept .exit)) ⌝ }
+fn survey_from(table: &[u8], mark: u16, whose: u16, kept: &mut [u16; CHANNEL_COUNT])
+    requires { ⌜ Resurvey (now table) mark whose (now kept) ⌝ }
+    ensures { λ _. ⌜ Kept tableA everyRecord (now (table .entry)) mark (now (kept .exit)) ⌝ }
 {
     if mark == whose {
         return;
     }
     let r = stations::station_at(table, mark as usize - 1);
-    let theirs = r.class as usize;
-    let lat2 = r.latitude;
-    let lon2 = r.longitude;
-    let near = spacing::limits_of(theirs, lat2);
-    survey::survey(table, n, theirs, &near, lat2, lon2, 221, 300, kept)
+    let place = survey::place_of(r);
+    let limits = spacing::limits_of(place);
+    let channels = Channels {
+        first: LOWEST,
+        last: HIGHEST,
+    };
+    survey::survey(table, place, &limits, channels, kept)
 }
 
-// The flags of one new channel, whose lone blocker is movable.
+// The row of one new channel, whose lone blocker is movable.
 fn flag_moves(
     table: &[u8],
-    n: usize,
-    class: usize,
-    near: &[u64; 48],
-    lat: i32,
-    lon: i32,
-    first: usize,
+    place: Place,
+    limits: &Limits,
     c: usize,
     mark: u16,
-    kept: &[u16; 80],
-    moves: &mut [bool],
+    kept: &[u16; CHANNEL_COUNT],
+    row: &mut [bool],
 )
-    requires { ⌜ judged (now table) ≡ Table n ⌝ }
-    requires { ⌜ (Limits tableA class (now near)) × ((Sound class lat lon) × (((0 < mark) × (mark ≤ n)) × ((221 ≤ c) × ((first ≤ c) × (Room first c (now moves)))))) ⌝ }
-    ensures { λ _. ⌜ Rowed (goesIn (scene everyRecord (now (table .entry)) n class lat lon) (now (kept .entry)) mark c) first c (now (moves .entry)) (now (moves .exit)) ⌝ }
+    requires { ⌜ Flagging (now table) place (now limits) c mark (now row) ⌝ }
+    ensures { λ _. ⌜ Rowed (goesBy tableA (sited place c) (stationOf (now (table .entry)) mark) mark (now (kept .entry))) (now (row .exit)) ⌝ }
 {
     let r = stations::station_at(table, mark as usize - 1);
-    let theirs = r.class as usize;
     let own = r.channel as usize;
-    let lat2 = r.latitude;
-    let lon2 = r.longitude;
-    let s = distance::squared(lat, lon, lat2, lon2);
-    let w = spacing::reach(class, near, theirs, s);
-    let k = 4 * theirs + 3;
-    let far = s < near[k];
-    fill_row(kept, mark, own, first, c, w, far, moves)
+    let theirs = survey::place_of(r);
+    let reach = spacing::reach_of(place, limits, theirs);
+    fill_row(kept, mark, own, c, reach, row)
 }
 
-// One new channel: its flags, where one movable station alone stands in the way. Answers whose marks are kept.
-fn turn(
-    table: &[u8],
-    n: usize,
-    class: usize,
-    near: &[u64; 48],
-    lat: i32,
-    lon: i32,
-    first: usize,
-    c: usize,
-    mark: u16,
-    whose: u16,
-    kept: &mut [u16; 80],
-    moves: &mut [bool],
-) -> u16
-    requires { ⌜ judged (now table) ≡ Table n ⌝ }
-    requires { ⌜ (Limits tableA class (now near)) × ((Sound class lat lon) × ((221 ≤ c) × ((first ≤ c) × (Room first c (now moves))))) ⌝ }
-    requires { ⌜ (mark ≡ seen (scene everyRecord (now table) n class lat lon .new c) n) × ((Kept everyRecord (now table) n whose (now kept)) × (Down (start first c) (now moves))) ⌝ }
-    ensures { λ r. ⌜ (Kept everyRecord (now (table .entry)) n r (now (kept .exit))) × (Turned (scene everyRecord (now (table .entry)) n class lat lon) first c mark (now (moves .entry)) (now (moves .exit))) ⌝ }
-{
-    if may_move(table, n, mark) {
-        keep(table, n, mark, whose, kept);
-        flag_moves(table, n, class, near, lat, lon, first, c, mark, kept, moves);
-        return mark;
-    }
-    whose
-}
-
-// The flags of the new channels from first to last.
+// The rows of new channels: flags where one movable station alone stands in the way. One survey from that station's site
+// serves all the new channels that it alone blocks, one after the other.
 pub fn plan(
     table: &[u8],
-    n: usize,
-    class: usize,
-    near: &[u64; 48],
-    lat: i32,
-    lon: i32,
-    first: usize,
-    last: usize,
-    marks: &[u16; 80],
+    place: Place,
+    limits: &Limits,
+    channels: Channels,
+    marks: &[u16; CHANNEL_COUNT],
     moves: &mut [bool],
 )
-    requires { ⌜ judged (now table) ≡ Table n ⌝ }
-    requires { ⌜ (Limits tableA class (now near)) × ((Sound class lat lon) × ((221 ≤ first) × ((first ≤ last) × (last ≤ 300)))) ⌝ }
-    requires { ⌜ (Marked (scene everyRecord (now table) n class lat lon .new) first last n (now marks)) × ((Down 0 (now moves)) × (Room first last (now moves))) ⌝ }
-    ensures { λ _. ⌜ Planned (scene everyRecord (now (table .entry)) n class lat lon) first (suc last) (now (moves .exit)) ⌝ }
+    requires { ⌜ Planning (now table) place (now limits) channels (now marks) (now moves) ⌝ }
+    ensures { λ _. ⌜ Planned (sceneOf (now (table .entry)) place) (channels .first) (suc (channels .last)) (now (moves .exit)) ⌝ }
 {
-    let mut kept = [0u16; 80];
+    let first = channels.first;
+    let last = channels.last;
+    let mut kept = [0u16; CHANNEL_COUNT];
     let mut whose: u16 = 0;
     let mut c = first;
     while c <= last {
-        let k = c - 221;
+        let k = c - LOWEST;
         let mark = marks[k];
-        whose = turn(
-            table,
-            n,
-            class,
-            near,
-            lat,
-            lon,
-            first,
-            c,
-            mark,
-            whose,
-            &mut kept,
-            moves,
-        );
+        if may_move(table, mark) {
+            survey_from(table, mark, whose, &mut kept);
+            whose = mark;
+            let a = CHANNEL_COUNT * (c - first);
+            let b = a + CHANNEL_COUNT;
+            flag_moves(table, place, limits, c, mark, &kept, &mut moves[a..b]);
+        }
         c += 1;
     }
 }

@@ -1,12 +1,9 @@
 -- What the pair rule means: short is the same in either order of the pair; no pair at or below 220, and none at another
 -- difference than 0, 1, 2, 3, 53 and 54, is short. Over any table of separations. Assumes nothing.
-use mathlib.Core.Path.{_≡_, sym, ap, _∙_}
-use mathlib.Core.Bool.{false, and-comm}
-use mathlib.Core.Logic.{_⊎_, inl, inr}
+use mathlib.Core.Path.{_≡_, refl, _∙_}
+use mathlib.Core.Bool.{Bool, true, false, and-comm}
 use Prim.Native.Nat.{ℕ, _-_, _≤_, _<_}
 use native.Mathlib.Nat.{add-comm}
-use native.Mathlib.Omega.{arith}
-use native.Mathlib.Decide.{decLt}
 use lib.Dec.{leb}
 use Rattle.distance.specs.Distance.{S}
 use Rattle.distance.proofs.Squares.{S-sym}
@@ -14,7 +11,7 @@ use Rattle.part73.specs.Columns.{gap, none, column}
 use Rattle.part73.specs.Separations.{Separations}
 use Rattle.part73.proofs.Facts.{column-none}
 use Rattle.spacing.specs.Pair.{Assignment, exempt, columnFor, separation, squareOf, distanceOf, shortBy}
-use Rattle.spacing.proofs.Rule.{for-low, for-high, by-none}
+use Rattle.spacing.proofs.Rule.{for-open, for-exempt, exempt-low, by-none}
 
 gap-swap : (x y : ℕ) → gap x y ≡ gap y x
 unfolding gap
@@ -25,15 +22,11 @@ unfolding columnFor exempt
 column-swap x y = rw (and-comm (leb x 220) (leb y 220), gap-swap x y)
 
 column-other : (x y : ℕ) → 3 < gap x y → (gap x y ≡ 53 → ⊥) → (gap x y ≡ 54 → ⊥) → columnFor x y ≡ none
-column-other x y h n m = go (decLt 220 x) (decLt 220 y)
+column-other x y h n m = go (exempt x y) refl
   where
-    high : (220 < x) ⊎ (220 < y) → columnFor x y ≡ none
-    high o = for-high x y o ∙ column-none (gap x y) h n m
-
-    go : Dec (220 < x) → Dec (220 < y) → columnFor x y ≡ none
-    go (yes l) d = high (inl l)
-    go (no l) (yes k) = high (inr k)
-    go (no l) (no k) = for-low x y (omega arith) (omega arith)
+    go : (b : Bool) → exempt x y ≡ b → columnFor x y ≡ none
+    go true e = for-exempt x y e
+    go false e = for-open x y e ∙ column-none (gap x y) h n m
 
 module _ {km : ℕ → ℕ → ℕ → ℕ} (table : Separations km) where
   -- either order of the pair
@@ -49,7 +42,7 @@ module _ {km : ℕ → ℕ → ℕ → ℕ} (table : Separations km) where
 
     -- a pair with both channels at or below 220
     pub never-low : p .channel ≤ 220 → q .channel ≤ 220 → shortBy km p q ≡ false
-    never-low h k = without (for-low (p .channel) (q .channel) h k)
+    never-low h k = without (for-exempt (p .channel) (q .channel) (exempt-low (p .channel) (q .channel) h k))
 
     -- any other difference
     pub never-other : 3 < gap (p .channel) (q .channel) → (gap (p .channel) (q .channel) ≡ 53 → ⊥) → (gap (p .channel) (q .channel) ≡ 54 → ⊥) → shortBy km p q ≡ false

@@ -1,3 +1,4 @@
 pub mod Pair
 pub mod Points
 pub mod Limits
+pub mod Reaching

@@ -1,24 +1,19 @@
 -- Inside: the pair rule by squared limits, as the code goes by it. Assumes nothing.
 use mathlib.Core.Path.{_≡_}
-use mathlib.Core.Bool.{Bool, true, _&&_, _||_}
+use mathlib.Core.Bool.{Bool}
 use mathlib.Core.List.{List}
-use Prim.Native.Nat.{ℕ, _+_, _-_, _*_, _/_, _%_, _≤_, _<_}
-use lib.Dec.{ltb, eqb}
-use lib.IntN.{ℤ}
+use Prim.Native.Nat.{ℕ, suc, _+_, _-_, _*_, _/_, _≤_, _<_}
+use lib.Dec.{ltb}
 use lib.ListN.{getD}
 use Rattle.ground.specs.Guard.{given}
-use Rattle.distance.specs.Distance.{S, Placed}
 use Rattle.distance.specs.Bounds.{LeastScale}
 use Rattle.part73.specs.Columns.{column}
+use Rattle.spacing.specs.declared.Place.{Place}
+use Rattle.spacing.specs.declared.Reach.{Reach}
 
 -- the square of the least distance, in decimetres, that rounds to R km
 unfoldable pub limitOf : ℕ → ℕ
 limitOf r = (10000 * r - 5000) * (10000 * r - 5000)
-
--- a class at a site
-pub record Sound (class : ℕ) (latitude longitude : ℤ) : Type 0 where
-  pub known : class < 8
-  pub placed : Placed latitude longitude
 
 -- seconds of latitude that put two sites at least (10,000 R - 5,000) decimetres apart: no degree is shorter than 1,105,648,400
 unfoldable pub northOf : ℕ → ℕ
@@ -28,35 +23,46 @@ northOf r = (10000 * r - 5000) * 3600000 / 1105648400 + 1
 unfoldable pub eastOf : ℕ → ℕ → ℕ
 eastOf scale r = (10000 * r - 5000) * 3600000 / scale + 1
 
--- the four limits of the class a against each class, one class after the other
-pub record Limits (km : ℕ → ℕ → ℕ → ℕ) (a : ℕ) (near : List ℕ) : Type 0 where
-  pub at : (k : ℕ) → k < 32 → getD near k 0 ≡ limitOf (km a (k / 4) (k % 4))
+-- where the limits of a class have, against the class b, the square in a column, and the seconds that clear the first column's
+abbrev pub squareAt : ℕ → ℕ → ℕ
+squareAt b c = 4 * b + c
 
--- what a class at a latitude is held by: these, and then against each class the seconds of latitude and those of longitude
--- that clear the first of the four
-pub record Near (km : ℕ → ℕ → ℕ → ℕ) (a : ℕ) (latitude : ℤ) (near : List ℕ) : Type 0 where
-  pub limits : Limits km a near
-  pub north : (b : ℕ) → b < 8 → getD near (32 + b) 0 ≡ northOf (km a b 0)
+abbrev pub northAt : ℕ → ℕ
+northAt b = 32 + b
+
+abbrev pub eastAt : ℕ → ℕ
+eastAt b = 40 + b
+
+-- the limits of a class at a latitude
+pub record LimitsAt (km : ℕ → ℕ → ℕ → ℕ) (p : Place) (limits : List ℕ) : Type 0 where
+  pub square : (b c : ℕ) → b < 8 → c < 4 → getD limits (squareAt b c) 0 ≡ limitOf (km (p .class) b c)
+  pub north : (b : ℕ) → b < 8 → getD limits (northAt b) 0 ≡ northOf (km (p .class) b 0)
   pub scale : ℕ
-  pub least : LeastScale latitude scale
-  pub east : (b : ℕ) → b < 8 → getD near (40 + b) 0 ≡ eastOf scale (km a b 0)
+  pub least : LeastScale (p .latitude) scale
+  pub east : (b : ℕ) → b < 8 → getD limits (eastAt b) 0 ≡ eastOf scale (km (p .class) b 0)
 
--- the place k of it
-unfoldable pub entryOf : (ℕ → ℕ → ℕ → ℕ) → ℕ → ℕ → ℕ → ℕ
-entryOf km a scale k =
-    given (ltb k 32) (limitOf (km a (k / 4) (k % 4)))
-    (given (ltb k 40) (northOf (km a (k - 32) 0))
-    (eastOf scale (km a (k - 40) 0)))
+-- the place k of them, from the four separations of the class against each class
+unfoldable pub entryOf : List ℕ → ℕ → ℕ → ℕ
+entryOf separations scale k =
+    given (ltb k 32) (limitOf (getD separations k 0))
+    (given (ltb k 40) (northOf (getD separations (4 * (k - 32)) 0))
+    (eastOf scale (getD separations (4 * (k - 40)) 0)))
 
--- two classes at S are short at each difference of 0 to 3 that is below r
-pub record Reach (km : ℕ → ℕ → ℕ → ℕ) (a b s r : ℕ) : Type 0 where
-  pub most : r ≤ 4
-  pub tells : (d : ℕ) → d ≤ 3 → ltb d r ≡ ltb s (limitOf (km a b (column d)))
+-- separations of 1 to 290 km
+pub record InKm (separations : List ℕ) : Type 0 where
+  pub some : (k : ℕ) → k < 32 → 0 < getD separations k 0
+  pub most : (k : ℕ) → k < 32 → getD separations k 0 ≤ 290
 
--- short at a difference, by what is reached: differences below w, and 53 and 54 where far says so
-abbrev pub hits : ℕ → Bool → ℕ → Bool
-hits w far d = ltb d w || ((eqb d 53 || eqb d 54) && far)
+-- the squares in the four columns against one class
+abbrev pub squaresOf : List ℕ → ℕ → ℕ → ℕ
+squaresOf limits b c = getD limits (squareAt b c) 0
 
--- two sites that are apart have an S of at least a limit
-pub record Apart (limit : ℕ) (lat1 lon1 lat2 lon2 : ℤ) (r : Bool) : Type 0 where
-  pub far : r ≡ true → limit ≤ S lat1 lon1 lat2 lon2
+-- four squares do not rise from column to column
+pub record Falling (square : ℕ → ℕ) : Type 0 where
+  pub on : (c : ℕ) → c < 3 → square (suc c) ≤ square c
+
+-- r says in which of the four columns s lies below the square
+pub record Under (square : ℕ → ℕ) (s : ℕ) (r : Reach) : Type 0 where
+  pub most : r .steps ≤ 4
+  pub low : (d : ℕ) → d ≤ 3 → ltb d (r .steps) ≡ ltb s (square (column d))
+  pub last : r .far ≡ ltb s (square 3)

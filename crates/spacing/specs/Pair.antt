@@ -4,9 +4,10 @@ use Prim.Native.Nat.{ℕ}
 use lib.Dec.{leb, ltb}
 use lib.IntN.{ℤ}
 use Rattle.ground.specs.Guard.{given}
-use Rattle.distance.specs.Distance.{S, km as rounded}
+use Rattle.distance.specs.Distance.{S, D}
 use Rattle.part73.specs.Columns.{gap, none, column}
-use Rattle.part73.specs.TableA.{km as tableA}
+use Rattle.part73.specs.TableA.{tableA}
+use Rattle.spacing.specs.declared.Place.{Place}
 
 -- what two stations are held by: channel, class and site
 pub record Assignment : Type 0 where
@@ -17,6 +18,10 @@ pub record Assignment : Type 0 where
 
 abbrev pub assignment : ℕ → ℕ → ℤ → ℤ → Assignment
 assignment channel class latitude longitude = record { channel = channel; class = class; latitude = latitude; longitude = longitude }
+
+-- a class at a site, on a channel
+abbrev pub sited : Place → ℕ → Assignment
+sited p channel = assignment channel (p .class) (p .latitude) (p .longitude)
 
 -- a pair with both channels at or below 220 (73.509 governs these)
 unfoldable pub exempt : ℕ → ℕ → Bool
@@ -35,7 +40,7 @@ unfoldable pub squareOf : Assignment → Assignment → ℕ
 squareOf p q = S (p .latitude) (p .longitude) (q .latitude) (q .longitude)
 
 unfoldable pub distanceOf : Assignment → Assignment → ℕ
-distanceOf p q = rounded (squareOf p q)
+distanceOf p q = D (squareOf p q)
 
 -- a pair is short exactly when D is below R
 unfoldable pub shortBy : (ℕ → ℕ → ℕ → ℕ) → Assignment → Assignment → Bool

@@ -6,10 +6,10 @@ use lib.IntN.{ℤ, pos, negsuc}
 use lib.Dec.{T, eqb}
 use Rattle.ground.specs.Guard.{given}
 use Rattle.ground.specs.Lists.{every}
-use Rattle.distance.specs.Distance.{t, series, c1, c2, c3, c4, c5, P, Q, lonGap, NS, EW, S, root, km as rounded}
+use Rattle.distance.specs.Distance.{t, series, c1, c2, c3, c4, c5, P, Q, lonGap, NS, EW, S, root, D}
 use Rattle.part73.specs.Classes.{A, C}
 use Rattle.part73.specs.Columns.{gap, column}
-use Rattle.part73.specs.TableA.{tableA as rows, relation, km as tableA}
+use Rattle.part73.specs.TableA.{relations, relation, tableA}
 use Rattle.spacing.specs.Pair.{Assignment, assignment, exempt, columnFor, separation, squareOf, distanceOf, shortBy, short}
 
 -- two stations or two sites, with what is said of them
@@ -21,7 +21,7 @@ pub data Point : Type 0 where
 abbrev pub right : Point → Bool
 right (shortPair p q) = short p q
 right (spacedPair p q) = not (short p q)
-right (apart lat1 lon1 lat2 lon2 d) = eqb (rounded (S lat1 lon1 lat2 lon2)) d
+right (apart lat1 lon1 lat2 lon2 d) = eqb (D (S lat1 lon1 lat2 lon2)) d
 
 abbrev pub points : List Point
 points =
@@ -40,5 +40,5 @@ points =
     ∷ []
 
 pub points-right : T (every right points)
-unfolding every given t series c1 c2 c3 c4 c5 P Q lonGap NS EW S root rounded gap column rows relation tableA exempt columnFor separation squareOf distanceOf shortBy
+unfolding every given t series c1 c2 c3 c4 c5 P Q lonGap NS EW S root D gap column relations relation tableA exempt columnFor separation squareOf distanceOf shortBy
 points-right = tt

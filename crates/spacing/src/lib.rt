@@ -1,101 +1,109 @@
 // The pair rule: the separation that applies to two stations, and whether they are short.
 ghost use mathlib.Core.Path.{_≡_};
-ghost use Prim.Native.Nat.{_≤_, _<_};
-ghost use lib.Dec.{ltb};
-ghost use lib.IntN.{natAbs};
+ghost use Prim.Native.Nat.{_<_};
 ghost use Rattle.distance.specs.Distance.{S};
-ghost use Rattle.part73.specs.TableA.{km as tableA};
-ghost use Rattle.part73.specs.Reading.{Against};
-ghost use Rattle.spacing.specs.Pair.{assignment, exempt, columnFor, separation, short};
-ghost use Rattle.spacing.specs.Limits.{limitOf, eastOf, entryOf, Sound, Limits, Near, Reach, Apart};
+ghost use Rattle.part73.specs.TableA.{tableA};
+ghost use Rattle.spacing.specs.Pair.{sited, exempt, columnFor, separation, short};
+ghost use Rattle.spacing.specs.Limits.{LimitsAt, Falling, Under, squaresOf};
+ghost use Rattle.spacing.specs.Reaching.{InRange, hits, Reaches, Clears};
 
-// The square of the least distance, in decimetres, that rounds to r km.
-fn limit(r: u16) -> u64
-    requires { ⌜ (0 < r) × (r ≤ 290) ⌝ }
-    ensures { λ l. ⌜ l ≡ limitOf r ⌝ }
-{
-    let least = 10_000 * (r as u64) - 5_000;
-    least * least
+mod limiting;
+mod surroundings;
+
+use limiting::east_in;
+pub use limiting::limits_of;
+use limiting::north_in;
+use limiting::square_in;
+pub use surroundings::box_around;
+
+// A class at a site.
+pub struct Place {
+    pub class: usize,
+    pub latitude: i32,
+    pub longitude: i32,
 }
 
-// Seconds of a degree, of which none is shorter than `scale`, that make at least (10,000 r - 5,000) decimetres.
-fn seconds(r: u16, scale: u64) -> u64
-    requires { ⌜ (0 < r) × ((r ≤ 290) × (0 < scale)) ⌝ }
-    ensures { λ s. ⌜ s ≡ eastOf scale r ⌝ }
-{
-    (10_000 * (r as u64) - 5_000) * 3_600_000 / scale + 1
+// What a class at a latitude is held by against each of the eight: made once for a pass over the table and lent on.
+pub type Limits = [u64; 48];
+
+// How far along the channels two stations reach.
+pub struct Reach {
+    pub steps: usize,
+    pub far: bool,
 }
 
-// One place of what a class is held by, from its separations.
-fn entry(class: usize, separations: &[u16; 32], scale: u64, k: usize) -> u64
-    requires { ⌜ (Against class (now separations)) × ((class < 8) × ((0 < scale) × (k < 48))) ⌝ }
-    ensures { λ r. ⌜ r ≡ entryOf tableA class scale k ⌝ }
-{
-    if k < 32 {
-        return limit(separations[k]);
-    }
-    if k < 40 {
-        let north = 4 * (k - 32);
-        return seconds(separations[north], 1_105_648_400);
-    }
-    let east = 4 * (k - 40);
-    seconds(separations[east], scale)
+// A box around a site: less than `up` seconds of latitude and less than `across` seconds of longitude from it.
+pub struct Around {
+    pub latitude: i32,
+    pub longitude: i32,
+    pub up: u32,
+    pub across: u32,
 }
 
-// What a class at a latitude is held by against each of the eight: read once for a pass over the table and lent on.
-pub fn limits_of(class: usize, lat: i32) -> [u64; 48]
-    requires { ⌜ (class < 8) × (natAbs lat ≤ 270000) ⌝ }
-    ensures { λ r. ⌜ Near tableA class lat r ⌝ }
+// S of two sites.
+pub fn square_between(p: Place, q: Place) -> u64
+    requires { ⌜ (InRange p) × (InRange q) ⌝ }
+    ensures { λ r. ⌜ r ≡ S (p .latitude) (p .longitude) (q .latitude) (q .longitude) ⌝ }
 {
-    let scale = distance::least_scale(lat);
-    let separations = part73::separations_of(class);
-    let mut out = [0u64; 48];
-    let mut k: usize = 0;
-    while k < 48 {
-        out[k] = entry(class, &separations, scale, k);
-        k += 1;
-    }
-    out
+    let lat = p.latitude;
+    let lon = p.longitude;
+    let lat2 = q.latitude;
+    let lon2 = q.longitude;
+    distance::squared(lat, lon, lat2, lon2)
 }
 
-// The latitudes alone, or the longitudes alone, put two sites as far apart as the first limit; where they do not, S is to
-// be taken.
-pub fn apart(
-    class: usize,
-    near: &[u64; 48],
-    theirs: usize,
-    lat: i32,
-    lon: i32,
-    lat2: i32,
-    lon2: i32,
-) -> bool
-    requires { ⌜ (Near tableA class lat (now near)) × ((Sound class lat lon) × (Sound theirs lat2 lon2)) ⌝ }
-    ensures { λ r. ⌜ Apart (limitOf (tableA class theirs 0)) lat lon lat2 lon2 r ⌝ }
+// The latitudes alone, or the longitudes alone, put two stations so far apart that they are short on no channels; where they
+// do not, S is to be taken.
+pub fn apart(p: Place, limits: &Limits, q: Place) -> bool
+    requires { ⌜ (LimitsAt tableA p (now limits)) × ((InRange p) × (InRange q)) ⌝ }
+    ensures { λ r. ⌜ Clears tableA p q r ⌝ }
 {
-    let k = 32 + theirs;
-    if near[k] <= distance::gap_size(lat, lat2) {
+    let theirs = q.class;
+    let lat = p.latitude;
+    let lat2 = q.latitude;
+    let north = north_in(limits, theirs);
+    if north <= distance::gap_size(lat, lat2) {
         return true;
     }
-    let m = 40 + theirs;
-    near[m] <= distance::lon_gap(lon, lon2)
+    let lon = p.longitude;
+    let lon2 = q.longitude;
+    let east = east_in(limits, theirs);
+    east <= distance::lon_gap(lon, lon2)
 }
 
-// How far two classes reach along the channels at S.
-pub fn reach(class: usize, near: &[u64; 48], theirs: usize, s: u64) -> usize
-    requires { ⌜ (Limits tableA class (now near)) × ((class < 8) × (theirs < 8)) ⌝ }
-    ensures { λ r. ⌜ Reach tableA class theirs s r ⌝ }
+// How far along the channels two classes reach at S: in which columns it lies below the squares.
+pub fn reach_at(limits: &Limits, theirs: usize, s: u64) -> Reach
+    requires { ⌜ (theirs < 8) × (Falling (squaresOf (now limits) theirs)) ⌝ }
+    ensures { λ r. ⌜ Under (squaresOf (now (limits .entry)) theirs) s r ⌝ }
 {
-    let k = 4 * theirs;
-    if near[k] <= s {
-        return 0;
+    let co_channel = square_in(limits, theirs, 0);
+    if co_channel <= s {
+        return Reach {
+            steps: 0,
+            far: false,
+        };
     }
-    if near[k + 1] <= s {
-        return 1;
+    let last = square_in(limits, theirs, 3);
+    let far = s < last;
+    let first = square_in(limits, theirs, 1);
+    if first <= s {
+        return Reach { steps: 1, far };
     }
-    if near[k + 2] <= s {
-        return 2;
+    let second = square_in(limits, theirs, 2);
+    if second <= s {
+        return Reach { steps: 2, far };
     }
-    4
+    Reach { steps: 4, far }
+}
+
+// How far along the channels a station at p and one at q reach.
+pub fn reach_of(p: Place, limits: &Limits, q: Place) -> Reach
+    requires { ⌜ (LimitsAt tableA p (now limits)) × ((InRange p) × (InRange q)) ⌝ }
+    ensures { λ r. ⌜ Reaches tableA p q r ⌝ }
+{
+    let theirs = q.class;
+    let s = square_between(p, q);
+    reach_at(limits, theirs, s)
 }
 
 // Both channels are at or below 220.
@@ -130,45 +138,40 @@ pub fn separation_of(x: usize, a: usize, y: usize, b: usize) -> u16
     part73::separation(a, b, column)
 }
 
-// Whether S of two classes at their sites lies below their limit in a column: the latitudes and longitudes first, then S.
-pub fn short_in_column(
-    column: usize,
-    class: usize,
-    near: &[u64; 48],
-    lat: i32,
-    lon: i32,
-    theirs: usize,
-    lat2: i32,
-    lon2: i32,
-) -> bool
-    requires { ⌜ (column < 4) × ((Near tableA class lat (now near)) × ((Sound class lat lon) × (Sound theirs lat2 lon2))) ⌝ }
-    ensures { λ r. ⌜ r ≡ ltb (S lat lon lat2 lon2) (limitOf (tableA class theirs column)) ⌝ }
+// Short at a difference of channels, by what is reached.
+pub fn is_hit(r: Reach, d: usize) -> bool
+    ensures { λ b. ⌜ b ≡ hits r d ⌝ }
 {
-    if apart(class, near, theirs, lat, lon, lat2, lon2) {
-        return false;
+    if d < r.steps {
+        return true;
     }
-    let k = 4 * theirs + column;
-    distance::squared(lat, lon, lat2, lon2) < near[k]
+    if d == 53 {
+        return r.far;
+    }
+    if d == 54 {
+        return r.far;
+    }
+    false
 }
 
-// Whether two stations are short: the channels first, then the sites.
-pub fn is_short(
-    channel: usize,
-    class: usize,
-    near: &[u64; 48],
-    lat: i32,
-    lon: i32,
-    c: usize,
-    theirs: usize,
-    lat2: i32,
-    lon2: i32,
-) -> bool
-    requires { ⌜ (Near tableA class lat (now near)) × ((Sound class lat lon) × (Sound theirs lat2 lon2)) ⌝ }
-    ensures { λ r. ⌜ r ≡ short (assignment channel class lat lon) (assignment c theirs lat2 lon2) ⌝ }
+// Whether a station at p, on channel x, and one at q, on channel y, are short: far sites first, then the channels, then S.
+pub fn is_short(x: usize, p: Place, limits: &Limits, y: usize, q: Place) -> bool
+    requires { ⌜ (LimitsAt tableA p (now limits)) × ((InRange p) × (InRange q)) ⌝ }
+    ensures { λ r. ⌜ r ≡ short (sited p x) (sited q y) ⌝ }
 {
-    let column = column_for(channel, c);
+    if apart(p, limits, q) {
+        return false;
+    }
+    let column = column_for(x, y);
     if column == 4 {
         return false;
     }
-    short_in_column(column, class, near, lat, lon, theirs, lat2, lon2)
+    let theirs = q.class;
+    let lat = p.latitude;
+    let lon = p.longitude;
+    let lat2 = q.latitude;
+    let lon2 = q.longitude;
+    let s = distance::squared(lat, lon, lat2, lon2);
+    let limit = square_in(limits, theirs, column);
+    s < limit
 }

@@ -1,6 +1,6 @@
 -- The image of stations that may stand in a table is a table, and has those stations. Assumes nothing.
 use mathlib.Core.Path.{_≡_, refl, sym, _∙_, ap, ap₂}
-use mathlib.Core.List.{List, [], _∷_, _++_, append-assoc}
+use mathlib.Core.List.{List, [], _∷_, _++_, append-assoc, List·Memᴰ·head, List·Memᴰ·tail}
 use Prim.Native.Nat.{ℕ, zero, suc, _+_, _*_, _^_, _≤_, _<_}
 use native.Mathlib.Nat.{add-zero, zero-add}
 use native.Mathlib.Omega.{arith}
@@ -9,21 +9,23 @@ use lib.Seq.{getD-at}
 use mir.Syntax.{w32}
 use mir.Val.{SFits, ofZ}
 use mir.ValLaws.{toZ-ofZ, ofZ-fits}
-use Rattle.ground.specs.Lists.{build, each}
+use Rattle.ground.specs.Lists.{_∈_, build, each}
 use Rattle.ground.proofs.Guards.{guards}
+use Rattle.ground.proofs.Order.{ahead-of, rest-of}
 use Rattle.ground.proofs.Signed.{fit32}
 use Rattle.wire.specs.Be.{be, bytes}
 use Rattle.wire.proofs.Width.{be-bytes, length-bytes}
 use Rattle.distance.specs.Distance.{latitudeOk, longitudeOk}
-use Rattle.stations.specs.Image.{stationAt, stations, count, headed, numbers, judged, scan, scanned, verdict}
+use Rattle.stations.specs.Image.{stationAt, stations, count, headed, numbers, judged, scan, scanned, verdict, Headed}
 use Rattle.stations.specs.Version.{top, limit, versionOf}
 use Rattle.stations.specs.Encode.{recordOf, headerOf, encode}
 use Rattle.stations.specs.declared.Station.{Station}
 use Rattle.stations.specs.declared.Verdict.the-variants.{Sound}
 use Rattle.stations.specs.declared.Judged.the-variants.{Table}
 use Rattle.stations.proofs.Versions.{carried, limit-small, version-small}
+use Rattle.stations.proofs.Stages.{all-passed}
 use Rattle.stations.proofs.Table.{Marked}
-use Rattle.stations.proofs.Fine.{Fine, Good}
+use Rattle.stations.proofs.Fine.{Fine, Good, Over}
 
 -- a station whose fields fit their places in a record
 pub record Sized (r : Station) : Type 0 where
@@ -33,16 +35,14 @@ pub record Sized (r : Station) : Type 0 where
   pub longitude : SFits w32 (r .longitude)
 
 abbrev pub AllSized : List Station → Type 0
-AllSized [] = Unit {0}
-AllSized (r ∷ rs) = Sized r × AllSized rs
+AllSized rs = (x : Station) → x ∈ rs → Sized x
 
 -- ids that fit 32 bits
 abbrev pub SmallIds : List Station → Type 0
-SmallIds [] = Unit {0}
-SmallIds (r ∷ rs) = (r .id < 2 ^ 32) × SmallIds rs
+SmallIds rs = (x : Station) → x ∈ rs → x .id < 2 ^ 32
 
 -- a fine record with such an id fits
-pub fine-sized : {t last : ℕ} (r : Station) → Fine t last r → r .id < 2 ^ 32 → Sized r
+pub fine-sized : {t : ℕ} (r : Station) → Fine t r → r .id < 2 ^ 32 → Sized r
 fine-sized r f h =
     record {
       id = h;
@@ -50,10 +50,6 @@ fine-sized r f h =
       latitude = fit32 (r .latitude) (omega (arith, f .placed .north));
       longitude = fit32 (r .longitude) (omega (arith, f .placed .east));
     }
-
-pub good-sized : (rs : List Station) (t last : ℕ) → Good t last rs → SmallIds rs → AllSized rs
-good-sized [] t last g h = tt
-good-sized (r ∷ rs) t last g h = (fine-sized r (g .0) (h .0), good-sized rs t (r .id) (g .1) (h .1))
 
 -- k bytes of v that stand at `at`
 field : (k v at : ℕ) (s p q : List ℕ) → s ≡ p ++ (bytes k v ++ q) → length p ≡ at → v < 256 ^ k → be k s at ≡ v
@@ -103,9 +99,9 @@ unfolding build each
 reads [] p i l m = refl
 reads (r ∷ rs) p i l m =
     let body = each recordOf rs in
-    let head : stationAt (p ++ (recordOf r ++ body)) (i + 0) ≡ r = rw add-zero (record-read r (m .0) p body i l) in
+    let head : stationAt (p ++ (recordOf r ++ body)) (i + 0) ≡ r = rw add-zero (record-read r (m r (List·Memᴰ·head refl)) p body i l) in
     let rest : build (length rs) (λ j. stationAt ((p ++ recordOf r) ++ body) (i + 1 + j)) ≡ rs =
-    reads rs (p ++ recordOf r) (i + 1) (simp (length-append, length-record) (omega (arith, l))) (m .1) in
+    reads rs (p ++ recordOf r) (i + 1) (simp (length-append, length-record) (omega (arith, l))) (λ x o. m x (List·Memᴰ·tail o)) in
     let same : (j : ℕ) → stationAt (p ++ (recordOf r ++ body)) (i + suc j) ≡ stationAt ((p ++ recordOf r) ++ body) (i + 1 + j) =
     λ j. let k : i + suc j ≡ i + 1 + j = omega arith in rw (append-assoc, k) in
     ap₂ (λ (x : Station) (xs : List Station). x ∷ xs) head (build-cong (length rs) _ _ same ∙ rest)
@@ -123,20 +119,21 @@ pub length-encode : (rs : List Station) → length (encode rs) ≡ 8 + 16 * leng
 unfolding encode
 length-encode rs = simp (length-append, length-body, length-header)
 
--- a fine record has no fault
-pub sound : (t last i : ℕ) (r : Station) → Fine t last r → Sound ≡ verdict t last i r
+-- a fine record with an id above the last has no fault
+pub sound : (t last i : ℕ) (r : Station) → last < r .id → Fine t r → Sound ≡ verdict t last i r
 unfolding verdict latitudeOk longitudeOk
-sound t last i r f =
+sound t last i r above f =
     let north = f .placed .north in
     let east = f .placed .east in
     search guards depth 14
 
-scan-all : (rs : List Station) (t i last : ℕ) → Good t last rs → scan t i last rs ≡ Table (i + length rs)
+scan-all : (rs : List Station) (t i last : ℕ) → Over last rs → Good t rs → scan t i last rs ≡ Sound
 unfolding scan
-scan-all [] t i last g = rw add-zero
-scan-all (r ∷ rs) t i last g =
-    let k : i + 1 + length rs ≡ i + suc (length rs) = omega arith in
-    rw (← sound t last i r (g .0)) (scan-all rs t (i + 1) (r .id) (g .1) ∙ ap Table k)
+scan-all [] t i last o g = refl
+scan-all (r ∷ rs) t i last o g =
+    let here = List·Memᴰ·head refl in
+    let rest : Good t rs = record { each = λ x m. g .each x (List·Memᴰ·tail m); ascends = rest-of (g .ascends) } in
+    rw (← sound t last i r (o r here) (g .each r here)) (scan-all rs t (i + 1) (r .id) (ahead-of (g .ascends)) rest)
 
 module _ (rs : List Station) (few : length rs ≤ limit) where
   counted : count (encode rs) ≡ length rs
@@ -156,7 +153,7 @@ module _ (rs : List Station) (few : length rs ≤ limit) where
   unfolding encode headerOf
   marked = (refl, refl, refl)
 
-  pub headed-image : headed (encode rs) ≡ Table (length rs)
+  pub headed-image : Headed (encode rs)
   unfolding headed numbers
   headed-image =
       let a : 8 ≤ 8 + 16 * length rs = omega arith in
@@ -169,16 +166,12 @@ module _ (rs : List Station) (few : length rs ≤ limit) where
     stations-image =
         rw counted (build-cong (length rs) _ _ (λ j. rw zero-add) ∙ reads rs (headerOf (versionOf rs) (length rs)) 0 (length-header _ _) m)
 
-    -- what stations in their image are judged: by their records alone
-    pub judged-scan : judged (encode rs) ≡ scan (top (versionOf rs)) 0 0 rs
-    unfolding judged scanned
-    judged-scan = rw (headed-image, stations-image, version)
-
-    pub judged-image : Good (top (versionOf rs)) 0 rs → judged (encode rs) ≡ Table (length rs)
-    judged-image g = judged-scan ∙ (scan-all rs (top (versionOf rs)) 0 0 g ∙ ap Table (zero-add (length rs)))
+    pub scanned-image : Good (top (versionOf rs)) rs → scanned (encode rs) ≡ Sound
+    unfolding scanned
+    scanned-image g = rw (stations-image, version) (scan-all rs (top (versionOf rs)) 0 0 (λ x m. g .each x m .counts) g)
 
   -- the encoding of a valid list is accepted, and has its stations
-  pub image-sound : Good (top (versionOf rs)) 0 rs → SmallIds rs → (judged (encode rs) ≡ Table (length rs)) × (stations (encode rs) ≡ rs)
+  pub image-sound : Good (top (versionOf rs)) rs → SmallIds rs → (judged (encode rs) ≡ Table (length rs)) × (stations (encode rs) ≡ rs)
   image-sound g h =
-      let m = good-sized rs (top (versionOf rs)) 0 g h in
-      (judged-image m g, stations-image m)
+      let m : AllSized rs = λ x o. fine-sized x (g .each x o) (h x o) in
+      (all-passed (encode rs) headed-image (scanned-image m g) ∙ ap Table counted, stations-image m)

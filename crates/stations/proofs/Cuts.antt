@@ -1,28 +1,48 @@
--- An accepted image, cut at its records. Assumes nothing.
+-- An image, cut at its records. Assumes nothing.
 use mathlib.Core.Path.{_≡_, sym, _∙_, ap}
-use mathlib.Core.List.{List, _++_}
+use mathlib.Core.List.{List, _∷_, _++_}
 use Prim.Native.Nat.{ℕ, _+_, _*_, _≤_}
 use native.Mathlib.Omega.{arith}
 use lib.ListN.{length, take, drop, take-append-drop, length-drop}
-use lib.Seq.{take-at, length-take-le}
+use lib.Seq.{take-at, drop-at, drop-drop, length-take-le}
 use Rattle.ground.specs.Lists.{each}
 use Rattle.ground.proofs.Spans.{each-append}
 use Rattle.wire.proofs.Width.{Bytes}
 use Rattle.stations.specs.Image.{stations, judged}
-use Rattle.stations.specs.Encode.{recordOf}
+use Rattle.stations.specs.Version.{versionOf}
+use Rattle.stations.specs.Encode.{recordOf, headerOf, encode}
 use Rattle.stations.specs.declared.Station.{Station}
 use Rattle.stations.specs.declared.Judged.the-variants.{Table}
 use Rattle.stations.proofs.Table.{whole, length-stations}
 use Rattle.stations.proofs.Image.{body-bytes}
-use Rattle.stations.proofs.Back.{length-body}
+use Rattle.stations.proofs.Back.{length-record, length-body, length-header}
 
--- the bytes of the first m records of a list
-pub take-body : (rs : List Station) (m : ℕ) → m ≤ length rs → take (16 * m) (each recordOf rs) ≡ each recordOf (take m rs)
-take-body rs m h =
-    let e : each recordOf rs ≡ each recordOf (take m rs) ++ each recordOf (drop m rs) =
-    ap (each recordOf) (sym (take-append-drop m rs)) ∙ each-append recordOf (take m rs) (drop m rs) in
-    let l : length (each recordOf (take m rs)) ≡ 16 * m = length-body (take m rs) ∙ ap (λ (k : ℕ). 16 * k) (length-take-le m rs h) in
-    rw e (take-at (each recordOf (take m rs)) (each recordOf (drop m rs)) (16 * m) l)
+-- ---- the image of a list
+
+module _ (rs : List Station) (m : ℕ) (h : m ≤ length rs) where
+  body-cut : each recordOf rs ≡ each recordOf (take m rs) ++ each recordOf (drop m rs)
+  body-cut = ap (each recordOf) (sym (take-append-drop m rs)) ∙ each-append recordOf (take m rs) (drop m rs)
+
+  front-long : length (each recordOf (take m rs)) ≡ 16 * m
+  front-long = length-body (take m rs) ∙ ap (λ (k : ℕ). 16 * k) (length-take-le m rs h)
+
+  -- the bytes of the first m records
+  take-body : take (16 * m) (each recordOf rs) ≡ each recordOf (take m rs)
+  take-body = rw body-cut (take-at (each recordOf (take m rs)) (each recordOf (drop m rs)) (16 * m) front-long)
+
+  -- and of those from m on
+  drop-body : drop (16 * m) (each recordOf rs) ≡ each recordOf (drop m rs)
+  drop-body = rw body-cut (drop-at (each recordOf (take m rs)) (each recordOf (drop m rs)) (16 * m) front-long)
+
+-- the sixteen bytes of the record at i
+pub bytes-at : (rs : List Station) (i : ℕ) (x : Station) (rest : List Station) → drop i rs ≡ x ∷ rest → take 16 (drop (8 + 16 * i) (encode rs)) ≡ recordOf x
+unfolding encode each
+bytes-at rs i x rest e =
+    let head = headerOf (versionOf rs) (length rs) in
+    let h : i ≤ length rs = omega (arith, length-drop i rs, ap length e) in
+    rw (← drop-drop (16 * i) 8 (head ++ each recordOf rs), drop-at head (each recordOf rs) 8 (length-header (versionOf rs) (length rs)), drop-body rs i h, e) (take-at (recordOf x) (each recordOf rest) 16 (length-record x))
+
+-- ---- an accepted image
 
 module _ (s : List ℕ) (b : Bytes s) (n : ℕ) (e : judged s ≡ Table n) where
   -- from the record at i on

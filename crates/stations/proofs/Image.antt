@@ -13,12 +13,12 @@ use Rattle.ground.specs.Lists.{each}
 use Rattle.wire.specs.Be.{be, bytes}
 use Rattle.wire.proofs.Width.{Bytes, bytes-be, be-lt, cut, one-at}
 use Rattle.stations.specs.Image.{stationAt, stations, version, judged}
-use Rattle.stations.specs.Version.{top, versionOf}
+use Rattle.stations.specs.Version.{versionOf}
 use Rattle.stations.specs.Encode.{recordOf, headerOf, encode}
 use Rattle.stations.specs.declared.Judged.the-variants.{Table}
 use Rattle.stations.proofs.Versions.{called}
 use Rattle.stations.proofs.Table.{Whole, whole, next, done, length-stations}
-use Rattle.stations.proofs.Fine.{good, good-flagged}
+use Rattle.stations.proofs.Fine.{good}
 
 module _ (s : List ℕ) (b : Bytes s) where
   signed-bytes : (at : ℕ) → at + 4 ≤ length s → bytes 4 (ofZ w32 (toZ w32 (be 4 s at))) ≡ take 4 (drop at s)
@@ -87,7 +87,7 @@ module _ (s : List ℕ) (b : Bytes s) where
   unfolding encode
   image-of n e =
       let w = whole s n e in
-      let v : version s ≡ versionOf (stations s) = called (version s) (stations s) (w .versioned) (rw (length-stations w) (w .ranged)) (good-flagged (stations s) (top (version s)) 0 (good s n e)) in
+      let v : version s ≡ versionOf (stations s) = called (version s) (stations s) (w .versioned) (rw (length-stations w) (w .ranged)) (λ x m. good s n e .each x m .flags) in
       rw (← v, length-stations w, header-bytes w, body-bytes w 0 (omega arith), take-append-drop)
 
 -- one list of stations has one accepted image

@@ -1,4 +1,8 @@
+pub mod Ids
+pub mod Changed
+pub mod Pairs
 pub mod Versions
+pub mod Stages
 pub mod Table
 pub mod Fine
 pub mod Image
@@ -6,3 +10,4 @@ pub mod Back
 pub mod Scanning
 pub mod Places
 pub mod Cuts
+pub mod Parts

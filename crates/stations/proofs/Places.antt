@@ -1,69 +1,30 @@
 -- Where an id stands in an accepted table, or would stand: its ids ascend strictly. Assumes nothing.
-use mathlib.Core.Path.{_≡_, refl, sym, ap, _∙_}
-use mathlib.Core.Bool.{Bool, true, false, cond, _||_}
-use mathlib.Core.List.{List, [], _∷_}
-use Prim.Native.Nat.{ℕ, zero, suc, _≤_, _<_}
+use mathlib.Core.Path.{_≡_, refl, sym, _∙_}
+use mathlib.Core.Bool.{Bool, true, false}
+use mathlib.Core.List.{List}
+use Prim.Native.Nat.{ℕ, _≤_, _<_}
 use native.Mathlib.Omega.{arith}
-use native.Mathlib.Decide.{ℕ-discrete, decLt}
-use lib.Dec.{eqb, leb}
-use lib.ListN.{length, drop}
-use borrow.Author.Tests.{eq-eqb, ne-eqb, eqb-true, leb-true, le-leb, lt-leb, ltb-true}
+use native.Mathlib.Decide.{decLt}
+use lib.ListN.{length}
+use borrow.Author.Tests.{eq-eqb, eqb-true, leb-true, leb-false, ltb-true}
 use Rattle.ground.specs.Lists.{some, first}
-use Rattle.ground.proofs.Firsts.{first-le, first-found, some-first, some-at}
-use Rattle.stations.specs.Image.{stationAt, stations, version, judged}
-use Rattle.stations.specs.Version.{top}
+use Rattle.ground.proofs.Firsts.{first-le, first-found, first-past, some-first, some-at}
+use Rattle.ground.proofs.Positions.{ascending-at}
+use Rattle.stations.specs.Image.{stationAt, stations, judged}
 use Rattle.stations.specs.Lists.{hasId, fromId}
-use Rattle.stations.specs.declared.Station.{Station}
 use Rattle.stations.specs.declared.Judged.the-variants.{Table}
 use Rattle.stations.proofs.Table.{whole, next, length-stations}
-use Rattle.stations.proofs.Fine.{Good, good}
+use Rattle.stations.proofs.Ids.{Ascends, first-id}
+use Rattle.stations.proofs.Fine.{good}
 
--- ---- lists of good records
+module _ (s : List ℕ) (n : ℕ) (e : judged s ≡ Table n) where
+  pub ids-ascend : Ascends (stations s)
+  ids-ascend = good s n e .ascends
 
--- every id is above the one before the list
-pub good-above : (rs : List Station) (t last : ℕ) (i : ℕ) (x : Station) (rest : List Station) → Good t last rs → drop i rs ≡ x ∷ rest → last < x .id
-good-above [] t last zero x rest g e = let z : _≡_ {A = ℕ} 0 1 = cc in absurd (omega arith)
-good-above [] t last (suc i) x rest g e = let z : _≡_ {A = ℕ} 0 1 = cc in absurd (omega arith)
-good-above (r ∷ rs) t last zero x rest g e = let same : r .id ≡ x .id = cc in omega (arith, g .0 .above)
-good-above (r ∷ rs) t last (suc i) x rest g e = omega (arith, g .0 .above, good-above rs t (r .id) i x rest (g .1) e)
-
--- a later id is larger
-pub good-order : (rs : List Station) (t last : ℕ) (i j : ℕ) (x y : Station) (a b : List Station) → Good t last rs → i < j → drop i rs ≡ x ∷ a → drop j rs ≡ y ∷ b → x .id < y .id
-good-order [] t last zero j x y a b g h e f = let z : _≡_ {A = ℕ} 0 1 = cc in absurd (omega arith)
-good-order [] t last (suc i) j x y a b g h e f = let z : _≡_ {A = ℕ} 0 1 = cc in absurd (omega arith)
-good-order (r ∷ rs) t last i zero x y a b g h e f = absurd (omega arith)
-good-order (r ∷ rs) t last zero (suc j) x y a b g h e f = let same : r .id ≡ x .id = cc in omega (arith, good-above rs t (r .id) j y b (g .1) f)
-good-order (r ∷ rs) t last (suc i) (suc j) x y a b g h e f = good-order rs t (r .id) i j x y a b (g .1) (omega arith) e f
-
--- an id that is not above the one before the list is not in it
-pub good-absent : (rs : List Station) (t last : ℕ) (id : ℕ) → Good t last rs → id ≤ last → some (hasId id) rs ≡ false
-unfolding some
-good-absent [] t last id g h = refl
-good-absent (r ∷ rs) t last id g h =
-    let ne : r .id ≡ id → ⊥ = λ e. omega (arith, g .0 .above) in
-    rw (ne-eqb (r .id) id ne) (good-absent rs t (r .id) id (g .1) (omega (arith, g .0 .above)))
-
--- the record with an id is the first whose id is not below
-pub good-first : (rs : List Station) (t last : ℕ) (id : ℕ) → Good t last rs → some (hasId id) rs ≡ true → first (hasId id) rs ≡ first (fromId id) rs
-unfolding some first
-good-first [] t last id g h = refl
-good-first (r ∷ rs) t last id g h = go (ℕ-discrete (r .id) id) (decLt (r .id) id) h (good-first rs t (r .id) id (g .1)) (good-absent rs t (r .id) id (g .1))
-  where
-    go : Dec (r .id ≡ id) → Dec (r .id < id) → (eqb (r .id) id || some (hasId id) rs) ≡ true
-        → (some (hasId id) rs ≡ true → first (hasId id) rs ≡ first (fromId id) rs)
-        → (id ≤ r .id → some (hasId id) rs ≡ false)
-        → cond (eqb (r .id) id) 0 (suc (first (hasId id) rs)) ≡ cond (leb id (r .id)) 0 (suc (first (fromId id) rs))
-    go (yes e) l h ih out = rw (eq-eqb (r .id) id e, le-leb id (r .id) (omega arith))
-    go (no ne) (yes l) h ih out =
-        let k : some (hasId id) rs ≡ true = rw (ne-eqb (r .id) id ne) at h in
-        rw (ne-eqb (r .id) id ne, lt-leb id (r .id) l) (ap suc (ih k))
-    go (no ne) (no m) h ih out =
-        let k : some (hasId id) rs ≡ true = rw (ne-eqb (r .id) id ne) at h in
-        let f : true ≡ false = sym k ∙ out (omega arith) in
-        let z : _≡_ {A = ℕ} 0 1 = cc in
-        absurd (omega arith)
-
--- ---- an accepted table
+  pub ascends-at : (i j : ℕ) → i < j → j < n → stationAt s i .id < stationAt s j .id
+  ascends-at i j l h =
+      let w = whole s n e in
+      ascending-at (stations s) i j _ _ ids-ascend l (next w i (omega arith)) (next w j h)
 
 module _ (s : List ℕ) (n : ℕ) (e : judged s ≡ Table n) (id : ℕ) where
   -- the position of the first record whose id is not below
@@ -73,14 +34,28 @@ module _ (s : List ℕ) (n : ℕ) (e : judged s ≡ Table n) (id : ℕ) where
   pub place-le : place ≤ n
   place-le = omega (arith, first-le (fromId id) (stations s), length-stations (whole s n e))
 
-  -- ids ascend
-  pub ascending : (i j : ℕ) → i < j → j < n → stationAt s i .id < stationAt s j .id
-  ascending i j l h =
-      let w = whole s n e in
-      good-order (stations s) (top (version s)) 0 i j (stationAt s i) (stationAt s j) _ _ (good s n e) l (next w i (omega arith)) (next w j h)
-
   at-place : place < n → id ≤ stationAt s place .id
   at-place h = leb-true id (stationAt s place .id) (first-found (fromId id) (stations s) (stationAt s place) _ (next (whole s n e) place h))
+
+  -- a record with an id below stands before it
+  pub below : (i : ℕ) → i < n → stationAt s i .id < id → i < place
+  below i h l = go (decLt i place) (decLt place i)
+    where
+      go : Dec (i < place) → Dec (place < i) → i < place
+      go (yes k) d = k
+      go (no k) (yes m) = absurd (omega (arith, at-place (omega arith), ascends-at s n e place i m h))
+      go (no k) (no m) =
+          let q : place ≡ i = omega arith in
+          let a : id ≤ stationAt s i .id = rw q at (at-place (omega arith)) in
+          absurd (omega arith)
+
+  -- any other does not
+  pub not-below : (i : ℕ) → i < n → id ≤ stationAt s i .id → place ≤ i
+  not-below i h l = go (decLt i place)
+    where
+      go : Dec (i < place) → place ≤ i
+      go (yes k) = absurd (omega (arith, leb-false id (stationAt s i .id) (first-past (fromId id) (stations s) i (stationAt s i) _ (next (whole s n e) i h) k)))
+      go (no k) = omega arith
 
   -- a record there with the id is one of the list
   pub present : place < n → stationAt s place .id ≡ id → some (hasId id) (stations s) ≡ true
@@ -88,7 +63,7 @@ module _ (s : List ℕ) (n : ℕ) (e : judged s ≡ Table n) (id : ℕ) where
 
   -- and one of the list is there
   pub present-first : some (hasId id) (stations s) ≡ true → first (hasId id) (stations s) ≡ place
-  present-first h = good-first (stations s) (top (version s)) 0 id (good s n e) h
+  present-first h = first-id id (stations s) (ids-ascend s n e) h
 
   pub present-place : some (hasId id) (stations s) ≡ true → (place < n) × (stationAt s place .id ≡ id)
   present-place h =
@@ -106,3 +81,15 @@ module _ (s : List ℕ) (n : ℕ) (e : judged s ≡ Table n) (id : ℕ) where
       go : (b : Bool) → some (hasId id) (stations s) ≡ b → some (hasId id) (stations s) ≡ false
       go true h = let p = present-place h in absurd (out (p .0) (p .1))
       go false h = h
+
+-- the record at a position is the first that has its id
+pub first-own : (s : List ℕ) (n : ℕ) (e : judged s ≡ Table n) (p : ℕ) → p < n → first (hasId (stationAt s p .id)) (stations s) ≡ p
+first-own s n e p h =
+    let id = stationAt s p .id in
+    let there = some-at (hasId id) (stations s) p (stationAt s p) _ (next (whole s n e) p h) (eq-eqb id id refl) in
+    let up : place s n e id ≤ p = not-below s n e id p h (omega arith) in
+    present-first s n e id there ∙ go (decLt (place s n e id) p) up
+  where
+    go : Dec (place s n e (stationAt s p .id) < p) → place s n e (stationAt s p .id) ≤ p → place s n e (stationAt s p .id) ≡ p
+    go (yes l) up = absurd (omega (arith, at-place s n e (stationAt s p .id) (omega arith), ascends-at s n e (place s n e (stationAt s p .id)) p l h))
+    go (no l) up = omega arith

@@ -6,14 +6,14 @@ use Prim.Native.Nat.{ℕ, _+_, _*_, _/_, _≤_, _<_}
 use native.Mathlib.Numerals.{add-one}
 use native.Mathlib.Omega.{arith}
 use Rattle.wire.specs.Be.{be}
-use Rattle.stations.specs.Image.{stationFrom, stationAt, version, verdict, scanned}
-use Rattle.stations.specs.Scanning.{idBefore, scannedFrom, Ahead, Passed}
+use Rattle.stations.specs.Image.{stationFrom, stationAt, version, count, verdict, scanned}
+use Rattle.stations.specs.Scanning.{idBefore, scannedFrom, Topped, Ahead, Passed}
 use Rattle.stations.specs.Version.{top}
 use Rattle.stations.specs.declared.Station.{Station}
 use Rattle.stations.specs.declared.Verdict.{Verdict}
 use Rattle.stations.specs.declared.Verdict.the-variants.{Sound}
-use Rattle.stations.proofs.Table.{Whole, scan-on}
-use Rattle.stations.proofs.Fine.{fine}
+use Rattle.stations.proofs.Table.{whole-headed, scan-on}
+use Rattle.stations.proofs.Fine.{fine-of}
 use Rattle.stations.proofs.Back.{sound}
 
 module _ (s : List ℕ) where
@@ -27,8 +27,9 @@ module _ (s : List ℕ) where
       let k : to / 16 ≡ at / 16 + 1 = omega (arith, e, f) in
       rw (k, add-one) (ap (λ r. r .id) (record-at at e))
 
-  pub ahead-next : (n k at to id : ℕ) → at ≡ 8 + 16 * (at / 16) → at / 16 + 1 + k ≤ n → to ≡ at + 16 → id ≡ be 4 s at → Ahead s n k to id
-  ahead-next n k at to id e h f g = record {
+  pub ahead-next : (t k at to id : ℕ) → Topped s t → at ≡ 8 + 16 * (at / 16) → at / 16 + 1 + k ≤ count s → to ≡ at + 16 → id ≡ be 4 s at → Ahead s t k to id
+  ahead-next t k at to id p e h f g = record {
+    topped = p;
     placed = omega (arith, e, f);
     within = omega (arith, e, f, h);
     before = g ∙ id-next at to e f;
@@ -37,23 +38,24 @@ module _ (s : List ℕ) where
   pub none-passed : (i k : ℕ) → Passed s i k false
   none-passed i k = record { sound = λ e. absurd (false≢true e) }
 
-  -- a sound record, and the next one
-  pub two-passed : (i j : ℕ) (b : Bool) → j ≡ i + 1 → Passed s i 1 true → Passed s j 1 b → Passed s i 2 b
-  two-passed i j b e p q =
-      let f : j + 1 ≡ i + 2 = omega (arith, e) in
+  -- sound records, and the next one
+  pub more-passed : (i j k : ℕ) (b : Bool) → j ≡ i + k → Passed s i k true → Passed s j 1 b → Passed s i (k + 1) b
+  more-passed i j k b e p q =
+      let f : j + 1 ≡ i + (k + 1) = omega (arith, e) in
       record { sound = λ t. p .sound refl ∙ ap (scannedFrom s) (sym e) ∙ q .sound t ∙ ap (scannedFrom s) f }
 
   pub sound-start : scanned s ≡ scannedFrom s 0
   unfolding scanned scannedFrom
   sound-start = refl
 
-pub one-passed : {s : List ℕ} {n : ℕ} → Whole s n → (t at last : ℕ) (r : Station) (v : Verdict) → t ≡ top (version s) → Ahead s n 1 at last → r ≡ stationFrom s at → v ≡ verdict t last 0 r → v ≡ Sound → Passed s (at / 16) 1 true
+pub one-passed : {s : List ℕ} (t at last : ℕ) (r : Station) (v : Verdict) → Ahead s t 1 at last → r ≡ stationFrom s at → v ≡ verdict t last 0 r → v ≡ Sound → Passed s (at / 16) 1 true
 unfolding scannedFrom
-one-passed {s} {n} w t at last r v et a er ev e =
+one-passed {s} t at last r v a er ev e =
     let i = at / 16 in
     let q : r ≡ stationAt s i = er ∙ record-at s at (a .placed) in
     let y : verdict t last 0 r ≡ Sound = sym ev ∙ e in
-    let z : verdict (top (version s)) (idBefore s i) 0 (stationAt s i) ≡ Sound = rw (et, a .before, q) at y in
-    let h : i < n = omega (arith, a .within) in
+    let z : verdict (top (version s)) (idBefore s i) 0 (stationAt s i) ≡ Sound = rw (a .topped .flags, a .before, q) at y in
+    let h : i < count s = omega (arith, a .within) in
     let b : idBefore s (i + 1) ≡ stationAt s i .id = rw add-one in
-    record { sound = λ _. rw b (scan-on w (top (version s)) i (idBefore s i) h (sym (sound _ _ i _ (fine _ _ 0 _ z)))) }
+    let f = fine-of _ _ 0 _ z in
+    record { sound = λ _. rw b (scan-on (whole-headed s (a .topped .headed)) (top (version s)) i (idBefore s i) h (sym (sound _ _ i _ (f .0) (f .1)))) }

@@ -1,6 +1,6 @@
--- A table that is judged whole: its length, and its records one after the other. What every loop over the records cites.
+-- A table with a right header: its length, and its records one after the other. What every loop over the records cites.
 -- Assumes nothing.
-use mathlib.Core.Path.{_≡_, refl, _∙_, ap}
+use mathlib.Core.Path.{_≡_, refl, _∙_}
 use mathlib.Core.List.{List, [], _∷_}
 use mathlib.Core.Bool.{Bool, true, false}
 use Prim.Native.Nat.{ℕ, _+_, _*_, _≤_, _<_}
@@ -13,14 +13,13 @@ use Rattle.ground.specs.Lists.{first}
 use Rattle.ground.proofs.Guards.{past, not-was, and-was}
 use Rattle.ground.proofs.Built.{length-build, drop-build}
 use Rattle.refusals.specs.declared.Refusal.{Refusal}
-use Rattle.stations.specs.Version.{known, carries, top, limit}
-use Rattle.stations.specs.Image.{stationAt, stations, version, count, verdict, after, scan, numbers, headed, scanned, judged, then}
+use Rattle.stations.specs.Version.{known, carries, limit}
+use Rattle.stations.specs.Image.{stationAt, stations, version, count, verdict, scan, numbers, headed, judged, Headed}
 use Rattle.stations.specs.declared.Station.{Station}
-use Rattle.stations.specs.declared.Verdict.{Verdict}
 use Rattle.stations.specs.declared.Verdict.the-variants.{Sound, Faulty}
-use Rattle.stations.specs.declared.Judged.{Judged}
-use Rattle.stations.specs.declared.Judged.the-variants.{Table, Refused}
+use Rattle.stations.specs.declared.Judged.the-variants.{Table}
 use Rattle.stations.proofs.Versions.{few}
+use Rattle.stations.proofs.Stages.{unsound, counted, headed-passed}
 
 abbrev pub Marked : List ℕ → Type 0
 Marked s = (getD s 0 0 ≡ 70) × (getD s 1 0 ≡ 77) × (getD s 2 0 ≡ 83)
@@ -54,13 +53,13 @@ module _ {s : List ℕ} {n : ℕ} (w : Whole s n) where
   scan-on t i last h e = rw (next i h, e)
 
   -- a faulty one: that is the judgement
-  pub scan-stop : (t i last : ℕ) (f : Refusal) → i < n → verdict t last i (stationAt s i) ≡ Faulty f → scan t i last (drop i (stations s)) ≡ Refused f
+  pub scan-stop : (t i last : ℕ) (f : Refusal) → i < n → verdict t last i (stationAt s i) ≡ Faulty f → scan t i last (drop i (stations s)) ≡ Faulty f
   unfolding scan
   scan-stop t i last f h e = rw (next i h, e)
 
-  pub scan-end : (t i last : ℕ) → i ≤ n → n ≤ i → scan t i last (drop i (stations s)) ≡ Table n
+  pub scan-end : (t i last : ℕ) → n ≤ i → scan t i last (drop i (stations s)) ≡ Sound
   unfolding scan
-  scan-end t i last h e = let z : i ≡ n = omega arith in rw (done i e) (ap Table z)
+  scan-end t i last e = rw (done i e)
 
   -- the first record that passes p, looked for from i on
   pub first-here : (p : Station → Bool) (i : ℕ) → i < n → p (stationAt s i) ≡ true → first p (drop i (stations s)) ≡ 0
@@ -75,67 +74,33 @@ module _ {s : List ℕ} {n : ℕ} (w : Whole s n) where
   unfolding first
   first-end p i h = rw (done i h)
 
-pub never : (f : Refusal) (n : ℕ) → Refused f ≡ Table n → ⊥
-never f n e = let z : _≡_ {A = ℕ} 0 1 = cc in omega arith
-
-same : {m n : ℕ} → Table m ≡ Table n → m ≡ n
-same e = cc
-
-whole-numbers : (s : List ℕ) (n : ℕ) → Marked s → numbers s ≡ Table n → Whole s n
+whole-numbers : (s : List ℕ) → Marked s → numbers s ≡ Sound → Whole s (count s)
 unfolding numbers
-whole-numbers s n m e =
-    let a = past _ _ _ _ e (never _ n) in
-    let b = past _ _ _ _ (a .1) (never _ n) in
-    let c = past _ _ _ _ (b .1) (never _ n) in
-    let d = past _ _ _ _ (c .1) (never _ n) in
-    let k : count s ≡ n = same (d .1) in
+whole-numbers s m e =
+    let a = past _ _ _ _ e (unsound _) in
+    let b = past _ _ _ _ (a .1) (unsound _) in
+    let c = past _ _ _ _ (b .1) (unsound _) in
+    let d = past _ _ _ _ (c .1) (unsound _) in
     let r : carries (version s) (count s) ≡ true = not-was _ (c .0) in
     record {
       mark = m;
       versioned = not-was _ (a .0);
-      ranged = rw k at r;
+      ranged = r;
       blank = eqb-true (getD s 5 0) 0 (not-was _ (b .0));
-      counted = k;
-      long = omega (arith, eqb-true (length s) (8 + 16 * count s) (not-was _ (d .0)));
-      few = rw k at (few (version s) (count s) r);
+      counted = refl;
+      long = eqb-true (length s) (8 + 16 * count s) (not-was _ (d .0));
+      few = few (version s) (count s) r;
     }
 
-pub whole-headed : (s : List ℕ) (n : ℕ) → headed s ≡ Table n → Whole s n
+-- a right header
+pub whole-headed : (s : List ℕ) → Headed s → Whole s (count s)
 unfolding headed
-whole-headed s n e =
-    let a = past _ _ _ _ (past _ _ _ _ e (never _ n) .1) (never _ n) in
+whole-headed s e =
+    let a = past _ _ _ _ (past _ _ _ _ e (unsound _) .1) (unsound _) in
     let m = and-was _ (eqb (getD s 2 0) 83) (not-was _ (a .0)) in
     let l = and-was (eqb (getD s 0 0) 70) (eqb (getD s 1 0) 77) (m .0) in
-    whole-numbers s n (eqb-true (getD s 0 0) 70 (l .0), eqb-true (getD s 1 0) 77 (l .1), eqb-true (getD s 2 0) 83 (m .1)) (a .1)
+    whole-numbers s (eqb-true (getD s 0 0) 70 (l .0), eqb-true (getD s 1 0) 77 (l .1), eqb-true (getD s 2 0) 83 (m .1)) (a .1)
 
--- the header is right: the records are judged
-pub judged-on : (s : List ℕ) (n : ℕ) → headed s ≡ Table n → judged s ≡ scanned s
-unfolding judged
-judged-on s n e = rw e
-
--- it is not: that is the judgement
-pub judged-left : (s : List ℕ) (h : Judged) (f : Refusal) → h ≡ headed s → h ≡ Refused f → h ≡ judged s
-unfolding judged
-judged-left s h f e g = rw (← e, g)
-
--- a record was sound, since the table was judged whole
-pub sound-of : (v : Verdict) (j : Judged) (n : ℕ) → after v j ≡ Table n → (v ≡ Sound) × (j ≡ Table n)
-sound-of Sound j n e = (refl, e)
-sound-of (Faulty f) j n e = absurd (never f n e)
-
-scan-count : (rs : List Station) (t i last n : ℕ) → scan t i last rs ≡ Table n → n ≡ i + length rs
-unfolding scan
-scan-count [] t i last n e = omega (arith, same e)
-scan-count (r ∷ rs) t i last n e = omega (arith, scan-count rs t (i + 1) (r .id) n (sound-of (verdict t last i r) _ n e .1))
-
-pub headed-of : (h j : Judged) (n : ℕ) → then h j ≡ Table n → (m : ℕ) × (h ≡ Table m) × (j ≡ Table n)
-headed-of (Table m) j n e = (m, refl, e)
-headed-of (Refused f) j n e = absurd (never f n e)
-
+-- an accepted table
 pub whole : (s : List ℕ) (n : ℕ) → judged s ≡ Table n → Whole s n
-unfolding judged scanned
-whole s n e =
-    let h = headed-of (headed s) (scanned s) n e in
-    let w = whole-headed s (h .0) (h .1) in
-    let k : h .0 ≡ n = omega (arith, scan-count (stations s) (top (version s)) 0 0 n (h .2), length-stations w) in
-    rw k at w
+whole s n e = rw (counted s n e) at (whole-headed s (headed-passed s n e))

@@ -1,4 +1,5 @@
 -- 01, The table image and its refusals 1 to 12, in the paper's order. Assumes nothing.
+use mathlib.Core.Path.{_≡_}
 use mathlib.Core.Bool.{not, _&&_, _||_}
 use mathlib.Core.List.{List, [], _∷_}
 use Prim.Native.Nat.{ℕ, _+_, _*_}
@@ -48,28 +49,30 @@ count s = be 2 s 6
 unfoldable pub stations : List ℕ → List Station
 stations s = build (count s) (stationAt s)
 
--- ---- how it is judged
-
-abbrev pub refused : Fault → Judged
-refused f = Refused (refusal f)
+-- ---- how it is judged: stage by stage, each sound or with its first fault
 
 abbrev pub faulty : Fault → Verdict
 faulty f = Faulty (refusal f)
 
--- the refusals 3 to 6 of the header, or the count
-unfoldable pub numbers : List ℕ → Judged
+-- where nothing is wrong, what is found next
+abbrev pub then : Verdict → Verdict → Verdict
+then Sound v = v
+then (Faulty f) v = Faulty f
+
+-- the refusals 3 to 6 of the header
+unfoldable pub numbers : List ℕ → Verdict
 numbers s =
-    given (not (known (version s))) (refused VersionUnknown)
-    (given (not (eqb (getD s 5 0) 0)) (refused SixthByteSet)
-    (given (not (carries (version s) (count s))) (refused CountOver)
-    (given (not (eqb (length s) (8 + 16 * count s))) (refused LengthWrong)
-    (Table (count s)))))
+    given (not (known (version s))) (faulty VersionUnknown)
+    (given (not (eqb (getD s 5 0) 0)) (faulty SixthByteSet)
+    (given (not (carries (version s) (count s))) (faulty CountOver)
+    (given (not (eqb (length s) (8 + 16 * count s))) (faulty LengthWrong)
+    Sound)))
 
 -- the header's: 1, 2, then the numbers'
-unfoldable pub headed : List ℕ → Judged
+unfoldable pub headed : List ℕ → Verdict
 headed s =
-    given (ltb (length s) 8) (refused UnderEightBytes)
-    (given (not (eqb (getD s 0 0) 70 && eqb (getD s 1 0) 77 && eqb (getD s 2 0) 83)) (refused MarkDiffers)
+    given (ltb (length s) 8) (faulty UnderEightBytes)
+    (given (not (eqb (getD s 0 0) 70 && eqb (getD s 1 0) 77 && eqb (getD s 2 0) 83)) (faulty MarkDiffers)
     (numbers s))
 
 -- the first fault of the record at position i, with flags up to t, after one with the id `last` (0 before the first)
@@ -83,23 +86,36 @@ verdict t last i r =
     (given (not (longitudeOk (r .longitude))) (faulty (LongitudeOutside i))
     Sound)))))
 
-abbrev pub after : Verdict → Judged → Judged
-after Sound j = j
-after (Faulty f) j = Refused f
-
 -- each record in turn, from position i on
-unfoldable pub scan : ℕ → ℕ → ℕ → List Station → Judged
-scan t i last [] = Table i
-scan t i last (r ∷ rs) = after (verdict t last i r) (scan t (i + 1) (r .id) rs)
+unfoldable pub scan : ℕ → ℕ → ℕ → List Station → Verdict
+scan t i last [] = Sound
+scan t i last (r ∷ rs) = then (verdict t last i r) (scan t (i + 1) (r .id) rs)
 
--- the refusals 7 to 12 of the records, or the count
-unfoldable pub scanned : List ℕ → Judged
+-- the refusals 7 to 12 of the records
+unfoldable pub scanned : List ℕ → Verdict
 scanned s = scan (top (version s)) 0 0 (stations s)
 
-abbrev pub then : Judged → Judged → Judged
-then (Table n) j = j
-then (Refused f) j = Refused f
+-- the stages, in the paper's order
+unfoldable pub stages : List ℕ → List Verdict
+stages s = headed s ∷ scanned s ∷ []
 
--- header, then records
+-- the first fault of a row
+abbrev pub firstFault : List Verdict → Verdict
+firstFault [] = Sound
+firstFault (v ∷ vs) = then v (firstFault vs)
+
+-- a table of n records, or its refusal
+abbrev pub tableOf : Verdict → ℕ → Judged
+tableOf Sound n = Table n
+tableOf (Faulty f) n = Refused f
+
 unfoldable pub judged : List ℕ → Judged
-judged s = then (headed s) (scanned s)
+judged s = tableOf (firstFault (stages s)) (count s)
+
+-- nothing is wrong with the header
+abbrev pub Headed : List ℕ → Type 0
+Headed s = headed s ≡ Sound
+
+-- nothing is wrong with it: it is a table of as many records as its header counts
+abbrev pub Accepted : List ℕ → Type 0
+Accepted s = judged s ≡ Table (count s)

@@ -1,5 +1,6 @@
 pub mod Version
+pub mod Lists
 pub mod Image
 pub mod Scanning
 pub mod Encode
-pub mod Lists
+pub mod Copying

@@ -12,17 +12,17 @@ use Rattle.stations.specs.declared.Station.{Station}
 unfoldable pub known : ℕ → Bool
 known v = eqb v 1
 
+-- no list is longer (else 21)
+unfoldable pub limit : ℕ
+limit = 2000
+
 -- it carries so many records (else 5)
 unfoldable pub carries : ℕ → ℕ → Bool
-carries v n = leb n 2000
+carries v n = leb n limit
 
 -- the highest flags of its records (above it 10): bit 0 means fixed, other bits are zero
 unfoldable pub top : ℕ → ℕ
 top v = 1
-
--- no list is longer (else 21)
-unfoldable pub limit : ℕ
-limit = 2000
 
 -- the version that a list calls for
 unfoldable pub versionOf : List Station → ℕ

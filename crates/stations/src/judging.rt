@@ -2,17 +2,16 @@
 ghost use mathlib.Core.Path.{_≡_};
 ghost use Prim.Native.Nat.{_/_, _≤_};
 ghost use lib.ListN.{length};
-ghost use Rattle.stations.specs.Image.{version, verdict, numbers as numbersOf, headed, scanned, judged};
-ghost use Rattle.stations.specs.Scanning.{idBefore, Ahead, Passed, SoundTo};
-ghost use Rattle.stations.specs.Version.{top as topOf};
-ghost use Rattle.stations.specs.declared.Judged.the-variants.{Table};
+ghost use Rattle.stations.specs.Image.{verdict, numbers as numbersOf, headed, scanned, judged, Headed};
+ghost use Rattle.stations.specs.Scanning.{idBefore, Topped, Ahead, Passed, SoundTo};
+use crate::FOUR_RECORDS;
 use crate::HEADER;
 use crate::Judged;
 use crate::MARK;
 use crate::RECORD;
 use crate::Station;
-use crate::TWO_RECORDS;
 use crate::Verdict;
+use crate::reading::count_of;
 use crate::reading::record_from;
 use crate::version::is_carried;
 use crate::version::is_known;
@@ -20,10 +19,10 @@ use crate::version::top_of;
 use refusals::Refusal;
 
 // A refusal of the header.
-fn refused(number: u32) -> Judged
-    ensures { λ r. ⌜ r ≡ Judged.Refused (record { number = number; extra = 0 }) ⌝ }
+fn wrong(number: u32) -> Verdict
+    ensures { λ r. ⌜ r ≡ Verdict.Faulty (record { number = number; extra = 0 }) ⌝ }
 {
-    Judged::Refused(Refusal { number, extra: 0 })
+    Verdict::Faulty(Refusal { number, extra: 0 })
 }
 
 // A refusal of the record at a position.
@@ -36,43 +35,43 @@ fn faulty(number: u32, position: u32) -> Verdict
     })
 }
 
-// The refusals 3 to 6, or the count.
-fn numbers(table: &[u8]) -> Judged
+// The first of the refusals 3 to 6.
+fn numbers(table: &[u8]) -> Verdict
     requires { ⌜ 8 ≤ length (now table) ⌝ }
     ensures { λ r. ⌜ r ≡ numbersOf (now (table .entry)) ⌝ }
 {
     let version = wire::get16(table, 3);
     let n = wire::get16(table, 6) as usize;
     if !is_known(version) {
-        return refused(refusals::VERSION_UNKNOWN);
+        return wrong(refusals::VERSION_UNKNOWN);
     }
     if table[5] != 0 {
-        return refused(refusals::SIXTH_BYTE_SET);
+        return wrong(refusals::SIXTH_BYTE_SET);
     }
     if !is_carried(version, n) {
-        return refused(refusals::COUNT_OVER);
+        return wrong(refusals::COUNT_OVER);
     }
     if table.len() != HEADER + RECORD * n {
-        return refused(refusals::LENGTH_WRONG);
+        return wrong(refusals::LENGTH_WRONG);
     }
-    Judged::Table(n)
+    Verdict::Sound
 }
 
-// The refusals 1 to 6, or the count.
-fn header(table: &[u8]) -> Judged
+// The first of the refusals 1 to 6.
+fn header(table: &[u8]) -> Verdict
     ensures { λ r. ⌜ r ≡ headed (now (table .entry)) ⌝ }
 {
     if table.len() < HEADER {
-        return refused(refusals::UNDER_EIGHT_BYTES);
+        return wrong(refusals::UNDER_EIGHT_BYTES);
     }
     if table[0] != MARK[0] {
-        return refused(refusals::MARK_DIFFERS);
+        return wrong(refusals::MARK_DIFFERS);
     }
     if table[1] != MARK[1] {
-        return refused(refusals::MARK_DIFFERS);
+        return wrong(refusals::MARK_DIFFERS);
     }
     if table[2] != MARK[2] {
-        return refused(refusals::MARK_DIFFERS);
+        return wrong(refusals::MARK_DIFFERS);
     }
     numbers(table)
 }
@@ -106,9 +105,8 @@ fn verdict_of(top: u8, last: u32, position: u32, r: Station) -> Verdict
 }
 
 // Whether the record at a place is sound after one with the id `last`.
-fn one_is_sound(table: &[u8], n: usize, top: u8, at: usize, last: u32) -> bool
-    requires { ⌜ headed (now table) ≡ Table n ⌝ }
-    requires { ⌜ (top ≡ topOf (version (now table))) × (Ahead (now table) n 1 at last) ⌝ }
+fn one_is_sound(table: &[u8], top: u8, at: usize, last: u32) -> bool
+    requires { ⌜ Ahead (now table) top 1 at last ⌝ }
     ensures { λ r. ⌜ Passed (now (table .entry)) (at / 16) 1 r ⌝ }
 {
     let r = record_from(table, at);
@@ -119,42 +117,47 @@ fn one_is_sound(table: &[u8], n: usize, top: u8, at: usize, last: u32) -> bool
     true
 }
 
-// Whether the two records from a place on are.
-fn two_are_sound(table: &[u8], n: usize, top: u8, at: usize, last: u32) -> bool
-    requires { ⌜ headed (now table) ≡ Table n ⌝ }
-    requires { ⌜ (top ≡ topOf (version (now table))) × (Ahead (now table) n 2 at last) ⌝ }
-    ensures { λ r. ⌜ Passed (now (table .entry)) (at / 16) 2 r ⌝ }
+// Whether the four records from a place on are.
+fn four_are_sound(table: &[u8], top: u8, at: usize, last: u32) -> bool
+    requires { ⌜ Ahead (now table) top 4 at last ⌝ }
+    ensures { λ r. ⌜ Passed (now (table .entry)) (at / 16) 4 r ⌝ }
 {
-    if one_is_sound(table, n, top, at, last) {
-        let id = wire::get32(table, at);
-        return one_is_sound(table, n, top, at + RECORD, id);
+    if !one_is_sound(table, top, at, last) {
+        return false;
     }
-    false
+    let first = wire::get32(table, at);
+    if !one_is_sound(table, top, at + 16, first) {
+        return false;
+    }
+    let second = wire::get32(table, at + 16);
+    if !one_is_sound(table, top, at + 32, second) {
+        return false;
+    }
+    let third = wire::get32(table, at + 32);
+    one_is_sound(table, top, at + 48, third)
 }
 
-// A place up to which all records are sound, two at a time: one of the two from there on is not, or fewer than two are left.
-fn sound_to(table: &[u8], n: usize, top: u8) -> usize
-    requires { ⌜ headed (now table) ≡ Table n ⌝ }
-    requires { ⌜ top ≡ topOf (version (now table)) ⌝ }
-    ensures { λ r. ⌜ SoundTo (now (table .entry)) n r ⌝ }
+// A place up to which all records are sound, four at a time: one of the four from there on is not, or fewer than four are left.
+fn sound_to(table: &[u8], top: u8) -> usize
+    requires { ⌜ Topped (now table) top ⌝ }
+    ensures { λ r. ⌜ SoundTo (now (table .entry)) r ⌝ }
 {
     let end = table.len();
     let mut last: u32 = 0;
     let mut at = HEADER;
-    while at + TWO_RECORDS <= end {
-        if !two_are_sound(table, n, top, at, last) {
+    while at + FOUR_RECORDS <= end {
+        if !four_are_sound(table, top, at, last) {
             return at;
         }
-        last = wire::get32(table, at + RECORD);
-        at += TWO_RECORDS;
+        last = wire::get32(table, at + 48);
+        at += FOUR_RECORDS;
     }
     at
 }
 
 // The id before a place.
-fn id_before(table: &[u8], n: usize, at: usize) -> u32
-    requires { ⌜ headed (now table) ≡ Table n ⌝ }
-    requires { ⌜ SoundTo (now table) n at ⌝ }
+fn id_before(table: &[u8], at: usize) -> u32
+    requires { ⌜ SoundTo (now table) at ⌝ }
     ensures { λ r. ⌜ r ≡ idBefore (now (table .entry)) (at / 16) ⌝ }
 {
     if at == HEADER {
@@ -163,36 +166,41 @@ fn id_before(table: &[u8], n: usize, at: usize) -> u32
     wire::get32(table, at - RECORD)
 }
 
-// The refusals 7 to 12 of the records in turn, or the count.
-fn records(table: &[u8], n: usize) -> Judged
-    requires { ⌜ headed (now table) ≡ Table n ⌝ }
+// The first of the refusals 7 to 12, of the records in turn.
+fn records(table: &[u8]) -> Verdict
+    requires { ⌜ Headed (now table) ⌝ }
     ensures { λ r. ⌜ r ≡ scanned (now (table .entry)) ⌝ }
 {
     let version = wire::get16(table, 3);
     let top = top_of(version);
     let end = table.len();
-    let mut at = sound_to(table, n, top);
-    let mut last = id_before(table, n, at);
+    let mut at = sound_to(table, top);
+    let mut last = id_before(table, at);
     while at < end {
         let r = record_from(table, at);
         let i = at / RECORD;
         let position = i as u32;
         let v = verdict_of(top, last, position, r);
         if let Verdict::Faulty(f) = v {
-            return Judged::Refused(f);
+            return v;
         }
         last = r.id;
         at += RECORD;
     }
-    Judged::Table(n)
+    Verdict::Sound
 }
 
+// Header, then records.
 pub fn judge(table: &[u8]) -> Judged
     ensures { λ r. ⌜ r ≡ judged (now (table .entry)) ⌝ }
 {
     let h = header(table);
-    let Judged::Table(n) = h else {
-        return h;
-    };
-    records(table, n)
+    if let Verdict::Faulty(f) = h {
+        return Judged::Refused(f);
+    }
+    let v = records(table);
+    if let Verdict::Faulty(f) = v {
+        return Judged::Refused(f);
+    }
+    Judged::Table(count_of(table))
 }

@@ -5,12 +5,14 @@ mod version;
 mod writing;
 
 pub use judging::judge;
-pub use reading::channel_from;
+pub use reading::count_of;
 pub use reading::is_movable;
 pub use reading::place_of;
 pub use reading::record_from;
 pub use reading::station_at;
+pub use reading::turns_end;
 use refusals::Refusal;
+pub use version::LIMIT;
 pub use version::is_full;
 pub use version::version_for;
 pub use writing::copy;
@@ -32,7 +34,7 @@ pub enum Judged {
     Refused(Refusal),
 }
 
-// What is found of one record.
+// What is found: nothing wrong, or the first fault.
 pub enum Verdict {
     Sound,
     Faulty(Refusal),
@@ -44,4 +46,4 @@ pub const HEADER: usize = 8;
 
 pub const RECORD: usize = 16;
 
-const TWO_RECORDS: usize = 32;
+const FOUR_RECORDS: usize = 64;

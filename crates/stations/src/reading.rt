@@ -1,14 +1,30 @@
 // The records of an image, read by position.
 ghost use mathlib.Core.Path.{_≡_};
-ghost use Prim.Native.Nat.{_+_, _*_, _≤_};
+ghost use Prim.Native.Nat.{_+_, _-_, _*_, _≤_};
 ghost use lib.ListN.{length};
 ghost use Rattle.ground.specs.Lists.{first};
-ghost use Rattle.stations.specs.Image.{stationFrom, stationAt, stations, judged};
+ghost use Rattle.stations.specs.Image.{stationFrom, stationAt, stations, count, Accepted};
 ghost use Rattle.stations.specs.Lists.{fromId, movable};
-ghost use Rattle.stations.specs.declared.Judged.the-variants.{Table};
 use crate::HEADER;
 use crate::RECORD;
 use crate::Station;
+
+// How many records the header counts.
+pub fn count_of(table: &[u8]) -> usize
+    requires { ⌜ 8 ≤ length (now table) ⌝ }
+    ensures { λ r. ⌜ r ≡ count (now (table .entry)) ⌝ }
+{
+    wire::get16(table, 6) as usize
+}
+
+// The position from which on fewer than four records are left.
+pub fn turns_end(table: &[u8]) -> usize
+    requires { ⌜ 8 ≤ length (now table) ⌝ }
+    ensures { λ r. ⌜ r ≡ count (now (table .entry)) - 3 ⌝ }
+{
+    let n = count_of(table);
+    if n < 3 { 0 } else { n - 3 }
+}
 
 // The record whose bytes begin at a place.
 pub fn record_from(table: &[u8], at: usize) -> Station
@@ -38,35 +54,30 @@ pub fn station_at(table: &[u8], i: usize) -> Station
     record_from(table, at)
 }
 
-// The channel of the record whose bytes begin at a place.
-pub fn channel_from(table: &[u8], at: usize) -> u16
-    requires { ⌜ at + 16 ≤ length (now table) ⌝ }
-    ensures { λ r. ⌜ r ≡ stationFrom (now (table .entry)) at .channel ⌝ }
-{
-    wire::get16(table, at + 4)
-}
-
-// The position of the first record whose id is not below; the count where there is none.
-pub fn place_of(table: &[u8], n: usize, id: u32) -> usize
-    requires { ⌜ judged (now table) ≡ Table n ⌝ }
+// The position of the first record whose id is not below; the count where there is none. The ids ascend: it is halved.
+pub fn place_of(table: &[u8], id: u32) -> usize
+    requires { ⌜ Accepted (now table) ⌝ }
     ensures { λ r. ⌜ r ≡ first (fromId id) (stations (now (table .entry))) ⌝ }
 {
-    let mut i: usize = 0;
-    while i < n {
-        let r = station_at(table, i);
-        if id <= r.id {
-            return i;
+    let mut low: usize = 0;
+    let mut high = count_of(table);
+    while low < high {
+        let middle = (low + high) / 2;
+        let r = station_at(table, middle);
+        if r.id < id {
+            low = middle + 1;
+        } else {
+            high = middle;
         }
-        i += 1;
     }
-    i
+    low
 }
 
 // Whether a station may be moved.
 pub fn is_movable(r: Station) -> bool
     ensures { λ b. ⌜ b ≡ movable r ⌝ }
 {
-    if r.flags != 0 {
+    if r.flags % 2 != 0 {
         return false;
     }
     220 < r.channel

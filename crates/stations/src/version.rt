@@ -3,6 +3,9 @@ ghost use mathlib.Core.Path.{_≡_};
 ghost use lib.Dec.{leb};
 ghost use Rattle.stations.specs.Version.{known, carries, top, limit, Calls};
 
+// No list is longer.
+pub const LIMIT: usize = 2000;
+
 // The paper has this version.
 pub fn is_known(version: u16) -> bool
     ensures { λ r. ⌜ r ≡ known version ⌝ }
@@ -14,7 +17,7 @@ pub fn is_known(version: u16) -> bool
 pub fn is_carried(version: u16, n: usize) -> bool
     ensures { λ r. ⌜ r ≡ carries version n ⌝ }
 {
-    n <= 2000
+    n <= LIMIT
 }
 
 // The highest flags of its records.
@@ -24,11 +27,11 @@ pub fn top_of(version: u16) -> u8
     1
 }
 
-// No list is longer.
+// A list of so many records takes no more.
 pub fn is_full(n: usize) -> bool
     ensures { λ r. ⌜ r ≡ leb limit n ⌝ }
 {
-    2000 <= n
+    LIMIT <= n
 }
 
 // The version that a list of n records calls for.

@@ -3,6 +3,7 @@ ghost use mathlib.Core.Path.{_≡_};
 ghost use Prim.Native.Nat.{_+_, _≤_};
 ghost use lib.ListN.{length, take, drop};
 ghost use lib.Seq.{sets};
+ghost use Rattle.stations.specs.Copying.{Copies};
 ghost use Rattle.stations.specs.Encode.{recordOf, headerOf};
 use crate::MARK;
 use crate::Station;
@@ -39,8 +40,7 @@ pub fn put_station(image: &mut [u8], at: usize, r: Station)
 
 // So many bytes of the table from a place on, written from a place of the image on.
 pub fn copy(table: &[u8], from: usize, image: &mut [u8], to: usize, count: usize)
-    requires { ⌜ from + count ≤ length (now table) ⌝ }
-    requires { ⌜ to + count ≤ length (now image) ⌝ }
+    requires { ⌜ Copies (now table) from (now image) to count ⌝ }
     ensures { λ _. ⌜ now (image .exit) ≡ sets (now (image .entry)) to (take count (drop from (now (table .entry)))) ⌝ }
 {
     let mut k: usize = 0;

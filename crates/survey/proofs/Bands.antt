@@ -13,8 +13,10 @@ use borrow.Author.Tests.{lt-ltb, le-ltb, le-leb, eq-eqb, leb-true, ltb-true, eqb
 use Rattle.ground.proofs.Guards.{and-was, or-first}
 use Rattle.part73.specs.Columns.{gap}
 use Rattle.part73.proofs.Facts.{column-none}
-use Rattle.spacing.specs.Limits.{hits}
-use Rattle.survey.specs.Marks.{Touches, Touching}
+use Rattle.spacing.specs.Reaching.{hits}
+use Rattle.spacing.specs.declared.Reach.{Reach}
+use Rattle.survey.specs.Marks.{Touches}
+use Rattle.survey.specs.declared.Channels.{Channels}
 
 -- ---- two tests are one where each gives the other
 
@@ -79,9 +81,12 @@ module _ (low : ℕ) where
 
 -- ---- the bands of one station
 
-module _ (c w : ℕ) (low : 201 ≤ c) (most : w ≤ 4) where
-  abbrev near : ℕ → Bool
-  near m = leb (c + 1 - w) m && leb m (c + w - 1)
+module _ (c : ℕ) (r : Reach) (low : 201 ≤ c) (most : r .steps ≤ 4) where
+  abbrev w : ℕ
+  w = r .steps
+
+  abbrev beside : ℕ → Bool
+  beside m = leb (c + 1 - w) m && leb m (c + w - 1)
 
   abbrev below : ℕ → Bool
   below m = leb (c - 54) m && leb m (c - 53)
@@ -89,10 +94,10 @@ module _ (c w : ℕ) (low : 201 ≤ c) (most : w ≤ 4) where
   abbrev above : ℕ → Bool
   above m = leb (c + 53) m && leb m (c + 54)
 
-  near-is : (m : ℕ) → near m ≡ ltb (gap m c) w
+  beside-is : (m : ℕ) → beside m ≡ ltb (gap m c) w
   unfolding gap
-  near-is m =
-      iff (near m) (ltb (gap m c) w)
+  beside-is m =
+      iff (beside m) (ltb (gap m c) w)
       (λ q. let h = and-was (leb (c + 1 - w) m) (leb m (c + w - 1)) q in lt-ltb (gap m c) w (omega (arith, leb-true (c + 1 - w) m (h .0), leb-true m (c + w - 1) (h .1))))
       (λ q. let h = ltb-true (gap m c) w q in within (c + 1 - w) (c + w - 1) m (omega arith) (omega arith))
 
@@ -117,54 +122,33 @@ module _ (c w : ℕ) (low : 201 ≤ c) (most : w ≤ 4) where
       side a b (yes l) = or-first (below m) (above m) (within (c - 54) (c - 53) m (omega arith) (omega arith))
       side a b (no nl) = or-last (below m) (above m) (within (c + 53) (c + 54) m (omega arith) (omega arith))
 
-  pub apart-1 : (m : ℕ) → below m ≡ true → near m ≡ false
+  pub apart-1 : (m : ℕ) → below m ≡ true → beside m ≡ false
   apart-1 m q =
       let h = and-was (leb (c - 54) m) (leb m (c - 53)) q in
       let a = leb-true m (c - 53) (h .1) in
       outside (c + 1 - w) (c + w - 1) m (λ x y. omega arith)
 
-  pub apart-2 : (m : ℕ) → above m ≡ true → (near m || below m) ≡ false
+  pub apart-2 : (m : ℕ) → above m ≡ true → (beside m || below m) ≡ false
   apart-2 m q =
       let h = and-was (leb (c + 53) m) (leb m (c + 54)) q in
       let a = leb-true (c + 53) m (h .0) in
       rw (outside (c + 1 - w) (c + w - 1) m (λ x y. omega arith)) (outside (c - 54) (c - 53) m (λ x y. omega arith))
 
-  pub bands-near : (far : Bool) (m : ℕ) → far ≡ false → near m ≡ hits w far (gap m c)
-  bands-near far m e =
-      near-is m ∙ rw (e, and-false (eqb (gap m c) 53 || eqb (gap m c) 54)) (sym (or-false (ltb (gap m c) w)))
+  pub bands-beside : (m : ℕ) → r .far ≡ false → beside m ≡ hits r (gap m c)
+  bands-beside m e =
+      beside-is m ∙ rw (e, and-false (eqb (gap m c) 53 || eqb (gap m c) 54)) (sym (or-false (ltb (gap m c) w)))
 
-  pub bands-all : (far : Bool) (m : ℕ) → far ≡ true → ((near m || below m) || above m) ≡ hits w far (gap m c)
-  bands-all far m e =
-      or-assoc (near m) (below m) (above m) ∙ rw (near-is m, sides m, e, and-true (eqb (gap m c) 53 || eqb (gap m c) 54))
+  pub bands-all : (m : ℕ) → r .far ≡ true → ((beside m || below m) || above m) ≡ hits r (gap m c)
+  bands-all m e =
+      or-assoc (beside m) (below m) (above m) ∙ rw (beside-is m, sides m, e, and-true (eqb (gap m c) 53 || eqb (gap m c) 54))
 
 -- ---- a channel that has no requirement against any of a range
 
--- a channel that is let through
-pub let-through : (c first last : ℕ) → Touches c first last true
-let-through c first last = record { none-of = λ e. absurd (true≢false e) }
+module _ (c : ℕ) (channels : Channels) where
+  -- a channel that is let through
+  pub let-through : Touches c channels true
+  let-through = record { none-of = λ e. absurd (true≢false e) }
 
--- none where every difference in the range is over 3 and neither 53 nor 54
-pub untouched : (c first last : ℕ) (r : Bool) → (r ≡ false → (m : ℕ) → first ≤ m → m ≤ last → (3 < gap m c) × ((gap m c ≡ 53 → ⊥) × (gap m c ≡ 54 → ⊥))) → Touches c first last r
-untouched c first last r f = record { none-of = λ q m a b. let h = f q m a b in column-none (gap m c) (h .0) (h .1 .0) (h .1 .1) }
-
--- ---- a table of them, filled channel by channel
-
--- the channels from 201 on that are below c are told
-pub record Told (first last : ℕ) (t : List Bool) (c : ℕ) : Type 0 where
-  pub long : length t ≡ 256
-  pub low : 201 ≤ c
-  pub at : (x : ℕ) → 201 ≤ x → x < c → Touches x first last (getD t (x % 256) false)
-
-pub told-start : (first last : ℕ) (t : List Bool) → length t ≡ 256 → Told first last t 201
-told-start first last t e = record { long = e; low = omega arith; at = λ x lo hi. absurd (omega arith) }
-
-pub told-turn : {first last c : ℕ} {t : List Bool} {v : Bool} → Told first last t c → c ≤ 300 → Touches c first last v → Told first last (set t (c % 256) v) (c + 1)
-told-turn {first} {last} {c} {t} {v} w h e =
-    record { long = length-set t (c % 256) v ∙ w .long; low = omega (arith, w .low); at = λ x lo hi. go x lo hi (ℕ-discrete x c) }
-  where
-    go : (x : ℕ) → 201 ≤ x → x < c + 1 → Dec (x ≡ c) → Touches x first last (getD (set t (c % 256) v) (x % 256) false)
-    go x lo hi (yes p) = rw (p, getD-set-same t (c % 256) v false (omega (arith, w .long))) e
-    go x lo hi (no np) = rw (getD-set-other t (c % 256) (x % 256) v false (λ p. np (omega (arith, w .low)))) (w .at x lo (omega arith))
-
-pub told-end : {first last c : ℕ} {t : List Bool} → Told first last t c → 300 < c → Touching first last t
-told-end w h = record { long = w .long; at = λ x lo hi. w .at x lo (omega arith) }
+  -- none where every difference in the range is over 3 and neither 53 nor 54
+  pub untouched : (r : Bool) → (r ≡ false → (m : ℕ) → channels .first ≤ m → m ≤ channels .last → (3 < gap m c) × ((gap m c ≡ 53 → ⊥) × (gap m c ≡ 54 → ⊥))) → Touches c channels r
+  untouched r f = record { none-of = λ q m a b. let h = f q m a b in column-none (gap m c) (h .0) (h .1 .0) (h .1 .1) }

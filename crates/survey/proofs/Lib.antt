@@ -2,3 +2,5 @@ pub mod Records
 pub mod Marks
 pub mod Bands
 pub mod Shorts
+pub mod Studied
+pub mod Boxes

@@ -2,7 +2,7 @@
 use mathlib.Core.Path.{_≡_, refl, sym, ap, _∙_}
 use mathlib.Core.Bool.{Bool, true, false, cond, _||_, or-false, true≢false}
 use mathlib.Core.List.{List}
-use Prim.Native.Nat.{ℕ, _+_, _-_, _≤_}
+use Prim.Native.Nat.{ℕ, zero, suc, _+_, _-_, _≤_, _<_}
 use native.Mathlib.Numerals.{add-one}
 use native.Mathlib.Omega.{arith}
 use native.Mathlib.Decide.{ℕ-discrete}
@@ -66,3 +66,17 @@ pub marked-turn : {way : ℕ → ℕ → Bool} {first last i : ℕ} {marks marks
 unfolding seen
 marked-turn {way} {i} {marks} w s =
     record { long = s .long; at = λ m lo hi. s .at m lo hi ∙ rw (w .at m lo hi, add-one i) }
+
+-- those that stand in nobody's way are passed over
+seen-skip : (way : ℕ → Bool) (i to : ℕ) → i ≤ to → ((j : ℕ) → i ≤ j → j < to → way j ≡ false) → seen way to ≡ seen way i
+unfolding seen
+seen-skip way i zero h f = let e : zero ≡ i = omega arith in ap (seen way) e
+seen-skip way i (suc to) h f = go (ℕ-discrete i (suc to)) (λ l. seen-skip way i to l (λ j a b. f j a (omega arith)))
+  where
+    go : Dec (i ≡ suc to) → (i ≤ to → seen way to ≡ seen way i) → seen way (suc to) ≡ seen way i
+    go (yes e) rest = ap (seen way) (sym e)
+    go (no n) rest = rw (f to (omega arith) (omega arith)) (rest (omega arith))
+
+pub marked-skip : {way : ℕ → ℕ → Bool} {first last i to : ℕ} {marks : List ℕ} → i ≤ to → ((j : ℕ) → i ≤ j → j < to → (m : ℕ) → first ≤ m → m ≤ last → way m j ≡ false) → Marked way first last i marks → Marked way first last to marks
+marked-skip {way} {i} {to} h f w =
+    record { long = w .long; at = λ m lo hi. w .at m lo hi ∙ sym (seen-skip (way m) i to h (λ j a b. f j a b m lo hi)) }

@@ -1,44 +1,33 @@
--- What a judged table says of a record, as a pass over it needs it. Assumes nothing.
-use mathlib.Core.Path.{_≡_}
+-- What an accepted table says of a record, as a walk over it needs it. Assumes nothing.
 use mathlib.Core.List.{List}
 use Prim.Native.Nat.{ℕ, _+_, _*_, _≤_, _<_}
-use native.Mathlib.Nat.{lt-of-le-of-lt}
 use native.Mathlib.Omega.{arith}
-use lib.Dec.{lit<}
-use lib.IntN.{ℤ}
 use lib.ListN.{length}
-use mir.Syntax.{w32}
-use mir.Val.{SFits}
-use Rattle.ground.proofs.Signed.{fit32}
-use Rattle.spacing.specs.Limits.{Sound}
-use Rattle.stations.specs.Image.{stationAt, judged}
-use Rattle.stations.specs.Version.{limit}
+use Rattle.spacing.specs.Reaching.{InRange}
+use Rattle.stations.specs.Image.{stationAt, count, Accepted}
 use Rattle.stations.specs.declared.Station.{Station}
-use Rattle.stations.specs.declared.Judged.the-variants.{Table}
+use Rattle.stations.proofs.Versions.{limit-small}
 use Rattle.stations.proofs.Table.{whole}
 use Rattle.stations.proofs.Fine.{fine-at}
+use Rattle.survey.specs.Ways.{placeOf}
 
--- a record that a pass may look at
+-- a record that a walk may look at
 pub record Known (r : Station) : Type 0 where
-  pub sound : Sound (r .class) (r .latitude) (r .longitude)
+  pub placed : InRange (placeOf r)
   pub low : 201 ≤ r .channel
   pub high : r .channel ≤ 300
 
-module _ (s : List ℕ) (n : ℕ) (e : judged s ≡ Table n) where
-  pub known-at : (i : ℕ) → i < n → Known (stationAt s i)
+module _ (s : List ℕ) (e : Accepted s) where
+  pub known-at : (i : ℕ) → i < count s → Known (stationAt s i)
   known-at i h =
-      let f = fine-at s n e i h .1 in
-      record { sound = record { known = omega (arith, f .class); placed = f .placed }; low = f .low; high = f .high }
+      let f = fine-at s (count s) e i h in
+      record { placed = record { known = omega (arith, f .class); placed = f .placed }; low = f .low; high = f .high }
 
-  pub room-at : (i : ℕ) → i < n → 8 + 16 * i + 16 ≤ length s
-  room-at i h = omega (arith, whole s n e .long)
+  pub room-at : (i : ℕ) → i < count s → 8 + 16 * i + 16 ≤ length s
+  room-at i h = omega (arith, whole s (count s) e .long)
 
-  pub few : n ≤ 2000
-  unfolding limit
-  few = whole s n e .few
+  pub header-room : 8 ≤ length s
+  header-room = omega (arith, whole s (count s) e .long)
 
-pub lat-fits : {a : ℕ} {lat lon : ℤ} → Sound a lat lon → SFits w32 lat
-lat-fits {a} {lat} s = fit32 lat (lt-of-le-of-lt (s .placed .north) (lit< tt))
-
-pub lon-fits : {a : ℕ} {lat lon : ℤ} → Sound a lat lon → SFits w32 lon
-lon-fits {a} {lat} {lon} s = fit32 lon (lt-of-le-of-lt (s .placed .east) (lit< tt))
+  pub few : count s ≤ 4000
+  few = omega (arith, whole s (count s) e .few, limit-small)

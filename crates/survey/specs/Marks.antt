@@ -1,11 +1,27 @@
 -- Inside: a mark for each channel from 221 to 300, that says who stands in the way there. Assumes nothing.
 use mathlib.Core.Path.{_≡_}
-use mathlib.Core.Bool.{Bool, false, cond}
+use mathlib.Core.Bool.{Bool, false, cond, _&&_}
 use mathlib.Core.List.{List}
-use Prim.Native.Nat.{ℕ, _%_, zero, suc, _+_, _-_, _≤_, _<_}
+use Prim.Native.Nat.{ℕ, zero, suc, _+_, _-_, _≤_, _<_}
 use lib.Dec.{eqb}
 use lib.ListN.{length, getD}
+use Rattle.part73.specs.Channels.{lowest, highest, channelCount}
 use Rattle.part73.specs.Columns.{gap, none, column}
+use Rattle.spacing.specs.Pair.{Assignment}
+use Rattle.stations.specs.Image.{stationAt}
+use Rattle.stations.specs.declared.Station.{Station}
+use Rattle.survey.specs.Ways.{near}
+use Rattle.survey.specs.declared.Channels.{Channels}
+
+-- the record at a position is looked at, and p is short to it
+unfoldable pub blocks : (ℕ → ℕ → ℕ → ℕ) → (Station → Bool) → List ℕ → Assignment → ℕ → Bool
+blocks km look s p j = look (stationAt s j) && near km p (stationAt s j)
+
+-- new channels that may be asked for
+pub record Asked (c : Channels) : Type 0 where
+  pub low : lowest ≤ c .first
+  pub some : c .first ≤ c .last
+  pub high : c .last ≤ highest
 
 -- a mark: 0 for nobody, j + 1 for the one at position j alone, `many` for two or more
 abbrev pub many : ℕ
@@ -20,25 +36,24 @@ unfoldable pub seen : (ℕ → Bool) → ℕ → ℕ
 seen way zero = 0
 seen way (suc n) = cond (way n) (join (seen way n) n) (seen way n)
 
+-- the mark of a channel
+abbrev pub markOf : List ℕ → ℕ → ℕ
+markOf marks m = getD marks (m - lowest) 0
+
 -- the marks of the channels from first to last
 pub record Marked (way : ℕ → ℕ → Bool) (first last n : ℕ) (marks : List ℕ) : Type 0 where
-  pub long : length marks ≡ 80
-  pub at : (m : ℕ) → first ≤ m → m ≤ last → getD marks (m - 221) 0 ≡ seen (way m) n
+  pub long : length marks ≡ channelCount
+  pub at : (m : ℕ) → first ≤ m → m ≤ last → markOf marks m ≡ seen (way m) n
 
 -- one more stands in the way on the channels that are hit
 pub record Struck (hit : ℕ → Bool) (first last who : ℕ) (entry exit : List ℕ) : Type 0 where
-  pub long : length exit ≡ 80
-  pub at : (m : ℕ) → first ≤ m → m ≤ last → getD exit (m - 221) 0 ≡ cond (hit m) (join (getD entry (m - 221) 0) who) (getD entry (m - 221) 0)
+  pub long : length exit ≡ channelCount
+  pub at : (m : ℕ) → first ≤ m → m ≤ last → markOf exit m ≡ cond (hit m) (join (markOf entry m) who) (markOf entry m)
 
 pub record Wiped (marks : List ℕ) : Type 0 where
-  pub long : length marks ≡ 80
-  pub at : (k : ℕ) → k < 80 → getD marks k 0 ≡ 0
+  pub long : length marks ≡ channelCount
+  pub at : (k : ℕ) → k < channelCount → getD marks k 0 ≡ 0
 
 -- where r is false, no channel from first to last has a requirement against channel c
-pub record Touches (c first last : ℕ) (r : Bool) : Type 0 where
-  pub none-of : r ≡ false → (m : ℕ) → first ≤ m → m ≤ last → column (gap m c) ≡ none
-
--- t tells so of each channel from 201 to 300, at the last byte of its number, which no other of them has
-pub record Touching (first last : ℕ) (t : List Bool) : Type 0 where
-  pub long : length t ≡ 256
-  pub at : (c : ℕ) → 201 ≤ c → c ≤ 300 → Touches c first last (getD t (c % 256) false)
+pub record Touches (c : ℕ) (channels : Channels) (r : Bool) : Type 0 where
+  pub none-of : r ≡ false → (m : ℕ) → channels .first ≤ m → m ≤ channels .last → column (gap m c) ≡ none

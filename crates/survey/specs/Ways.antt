@@ -1,14 +1,19 @@
--- Who stands in the way of a station: the records of a table that it is short to. Assumes nothing.
-use mathlib.Core.Bool.{Bool, true, _&&_}
+-- Which stations a question studies, and who stands in the way of a station: those that it is short to. Assumes nothing.
+use mathlib.Core.Bool.{Bool, true, not}
 use mathlib.Core.List.{List}
 use Prim.Native.Nat.{ℕ}
-use Rattle.spacing.specs.Pair.{Assignment, assignment, short}
-use Rattle.stations.specs.Image.{stationAt}
+use Rattle.ground.specs.Lists.{keep, every}
+use Rattle.spacing.specs.Pair.{Assignment, sited, shortBy}
+use Rattle.spacing.specs.declared.Place.{Place}
 use Rattle.stations.specs.declared.Station.{Station}
 
--- a record on a channel, and on its own
+-- the class and site of a station
+abbrev pub placeOf : Station → Place
+placeOf r = record { class = r .class; latitude = r .latitude; longitude = r .longitude }
+
+-- a station on a channel, and on its own
 abbrev pub onChannel : ℕ → Station → Assignment
-onChannel channel r = assignment channel (r .class) (r .latitude) (r .longitude)
+onChannel channel r = sited (placeOf r) channel
 
 abbrev pub asItStands : Station → Assignment
 asItStands r = onChannel (r .channel) r
@@ -17,6 +22,14 @@ asItStands r = onChannel (r .channel) r
 abbrev pub everyRecord : Station → Bool
 everyRecord r = true
 
--- the record at a position is looked at, and the station is short to it
-unfoldable pub blocks : (Station → Bool) → List ℕ → Assignment → ℕ → Bool
-blocks look s p j = look (stationAt s j) && short p (asItStands (stationAt s j))
+-- the stations that a question studies
+unfoldable pub studied : List Station → List Station
+studied ss = keep everyRecord ss
+
+-- what is proposed, p, is short to a station, by a table of separations
+abbrev pub near : (ℕ → ℕ → ℕ → ℕ) → Assignment → Station → Bool
+near km p r = shortBy km p (asItStands r)
+
+-- p is short to nobody
+unfoldable pub clear : (ℕ → ℕ → ℕ → ℕ) → Assignment → List Station → Bool
+clear km p ss = every (λ r. not (near km p r)) ss

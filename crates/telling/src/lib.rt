@@ -2,12 +2,13 @@
 ghost use mathlib.Core.Path.{_≡_};
 ghost use Prim.Native.Nat.{_+_, _*_, _≤_, _<_};
 ghost use lib.ListN.{length};
+ghost use Rattle.stations.specs.Version.{limit};
 ghost use Rattle.telling.specs.Told.{Within};
 use desk::Answer;
 use lines::LINE;
+use lines::put_heading;
+use lines::put_lines;
 use lines::put_refusal;
-use lines::put_rows;
-use lines::put_short;
 use lines::room;
 use lines::write;
 use refusals::Refusal;
@@ -51,10 +52,10 @@ fn batch_end(from: usize, count: usize) -> usize
 
 // `short K`, and K lines.
 fn tell_short(text: &mut [u8], rows: &[u32], count: usize) -> Told
-    requires { ⌜ (65536 ≤ length (now text)) × ((3 * count ≤ length (now rows)) × (count ≤ 2000)) ⌝ }
+    requires { ⌜ (65536 ≤ length (now text)) × ((3 * count ≤ length (now rows)) × (count < 4294967296)) ⌝ }
     ensures { λ r. ⌜ r .count ≡ count ⌝ }
 {
-    let mut at = put_short(text, 0, count as u32);
+    let mut at = put_heading(text, 0, count as u32);
     let mut from: usize = 0;
     while from < count {
         let p = room(text, at, LINE * BATCH);
@@ -65,7 +66,7 @@ fn tell_short(text: &mut [u8], rows: &[u32], count: usize) -> Told
             };
         }
         let to = batch_end(from, count);
-        at = put_rows(text, p.at, rows, from, to);
+        at = put_lines(text, p.at, rows, from, to);
         from = to;
     }
     let whole = write(text, at);
@@ -74,8 +75,8 @@ fn tell_short(text: &mut [u8], rows: &[u32], count: usize) -> Told
 
 // The answer to a check.
 pub fn tell_check(text: &mut [u8], rows: &[u32], answer: Answer) -> Told
-    requires { ⌜ (65536 ≤ length (now text)) × ((length (now rows) ≡ 6000) × (Within 6000 answer)) ⌝ }
-    ensures { λ r. ⌜ r .count ≤ 2000 ⌝ }
+    requires { ⌜ (65536 ≤ length (now text)) × ((length (now rows) ≡ 3 * limit) × (Within (length (now rows)) answer)) ⌝ }
+    ensures { λ r. ⌜ 3 * r .count ≤ length (now (rows .entry)) ⌝ }
 {
     match answer {
         Answer::Granted(count) => tell_short(text, rows, count as usize / 3),
@@ -91,7 +92,7 @@ pub fn put_answer(text: &mut [u8], at: usize, rows: &[u32], answer: Answer) -> C
     match answer {
         Answer::Granted(count) => {
             let last = count as usize / 3;
-            let end = put_rows(text, at, rows, 0, last);
+            let end = put_lines(text, at, rows, 0, last);
             Channel {
                 at: end,
                 rows: last,
@@ -111,8 +112,8 @@ pub fn put_answer(text: &mut [u8], at: usize, rows: &[u32], answer: Answer) -> C
 
 // The answer to a change.
 pub fn tell_change(image: &mut [u8], answer: Answer) -> Told
-    requires { ⌜ (length (now image) ≡ 32008) × (Within 32008 answer) ⌝ }
-    ensures { λ r. ⌜ r .count ≤ 32008 ⌝ }
+    requires { ⌜ (length (now image) ≡ 8 + 16 * limit) × (Within (length (now image)) answer) ⌝ }
+    ensures { λ r. ⌜ r .count ≤ length (now (image .entry)) ⌝ }
 {
     match answer {
         Answer::Granted(count) => {

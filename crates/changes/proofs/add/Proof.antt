@@ -7,6 +7,7 @@ use mir.Syntax.{w32}
 use mir.Val.{SFits, toZ, ofZ}
 use mir.ValLaws.{toZ-ofZ}
 use Rattle.stations.specs.declared.Verdict.the-variants.{Sound}
+use Rattle.stations.proofs.Stages.{is-accepted}
 use Rattle.desk.specs.Asked.{askedFault}
 use Rattle.desk.proofs.Asked.{Fair, fair}
 use Rattle.changes.proofs.Ways.{table-out, refused-by, decided, add-asked, add-entering}
@@ -76,8 +77,9 @@ cast-t16 c = omega (arith, good c .fits .known)
 enter-requires : tie.Need-enter-requires
 enter-requires c κs =
     let e = c .before in
-    let k = good e .fits in
-    simp (north (e .before .before), east (e .before .before)) (told (e .before .before .before .before .before), record { known = k .known; placed = k .placed })
+    let k = good e in
+    simp (north (e .before .before), east (e .before .before))
+    (record { accepted = is-accepted _ _ (told (e .before .before .before .before .before)); asked = record { low = k .low; high = k .high }; placed = record { known = k .fits .known; placed = k .fits .placed } })
 
 same-length : tie.Need-same-length
 same-length c = search needs

@@ -6,18 +6,17 @@ use native.Mathlib.Omega.{arith}
 use borrow.Author.Tests.{lt-ltb, le-ltb, not-true, not-false}
 use Rattle.ground.specs.Lists.{some, first}
 use Rattle.stations.specs.Image.{stationAt, stations, judged}
-use Rattle.stations.specs.Lists.{hasId, movable}
+use Rattle.stations.specs.Lists.{hasId, withId, movable, onto}
 use Rattle.stations.specs.declared.Judged.the-variants.{Table}
 use Rattle.finding.specs.Conflicts.{conflicts}
 use Rattle.changes.specs.Changes.{Decision}
-use Rattle.granting.proofs.Ready.{Ready, ready, within, own-id, first-at}
-use Rattle.changes.proofs.There.{find-at}
+use Rattle.stations.proofs.Stages.{counted, is-accepted}
+use Rattle.stations.proofs.Table.{whole, length-stations}
+use Rattle.changes.proofs.There.{count-small, place-small, within, own-id, first-at, with-at}
 use Rattle.stations.specs.declared.Station.{Station}
 use Rattle.desk.specs.Asked.{outside}
 use Rattle.survey.proofs.Records.{known-at, room-at}
-use Rattle.granting.specs.Lists.{onto}
-use Rattle.changes.specs.Lists.{find}
-use Rattle.changes.proofs.Held.{find-absent}
+use Rattle.stations.proofs.Ids.{with-none}
 use Rattle.changes.proofs.Ways.{table-out, refused-by, granted-by, found, found-none, move-outside, move-absent, move-fixed, move-short, move-granted}
 use borrow.Author.Needs.{needs}
 use Rattle.changes.proofs.move_to.Statement.{statement}
@@ -29,17 +28,14 @@ told c = sym (c .before .before .before .judge .ensures) ∙ c .before .j .given
 inside : (c : tie.Else2) → outside (c .before .before .before .before .before .before .before .before .args .channel) ≡ false
 inside c = rw (le-ltb _ _ (c .before .if1 .left), le-ltb _ _ (c .if2 .left))
 
-ok : (c : tie.After-place-of) → let s = c .before .before .before .before .before .before .before .before .before in Ready (s .args .table .now) (c .before .before .before .before .j .given .0 .0) (c .place-of .result)
-ok c = ready _ _ (told (c .before .before .before)) _ _ (c .place-of .ensures)
-
 there : (c : tie.Else3) → let s = c .before .before .before .before .before .before .before .before .before .before .before in some (hasId (s .args .id)) (stations (s .args .table .now)) ≡ true
 there c = sym (c .before .is-there .ensures) ∙ not-false _ (c .if3 .left)
 
 lies : (c : tie.Else3) → c .before .before .place-of .result < c .before .before .before .before .before .before .j .given .0 .0
 lies c = within _ _ (told (c .before .before .before .before .before)) _ _ (c .before .before .place-of .ensures) (there c)
 
-at-place : (c : tie.Else3) → let s = c .before .before .before .before .before .before .before .before .before .before .before in (none : Decision) (one : Station → Decision) → find (s .args .id) (stations (s .args .table .now)) none one ≡ one (stationAt (s .args .table .now) (c .before .before .place-of .result))
-at-place c none one = find-at _ _ (told (c .before .before .before .before .before)) _ _ (c .before .before .place-of .ensures) (there c) none one
+at-place : (c : tie.Else3) → let s = c .before .before .before .before .before .before .before .before .before .before .before in (none : Decision) (one : Station → Decision) → withId (s .args .id) (stations (s .args .table .now)) none one ≡ one (stationAt (s .args .table .now) (c .before .before .place-of .result))
+at-place c none one = with-at _ _ (told (c .before .before .before .before .before)) _ _ (c .before .before .place-of .ensures) (there c) none one
 
 first-place : (c : tie.Else3) → let s = c .before .before .before .before .before .before .before .before .before .before .before in first (hasId (s .args .id)) (stations (s .args .table .now)) ≡ c .before .before .place-of .result
 first-place c = first-at _ _ (told (c .before .before .before .before .before)) _ _ (c .before .before .place-of .ensures) (there c)
@@ -93,10 +89,10 @@ returns-3 : tie.Need-returns-3
 returns-3 c = rw (c .refused2 .ensures) (refused-by _ _ _ _ _ (told (c .before .before .before)) (move-outside _ _ _ (rw (le-ltb _ _ (c .before .before .if1 .left), lt-ltb _ _ (c .before .if2 .taken)))))
 
 place-of-requires : tie.Need-place-of-requires
-place-of-requires c κs = told (c .before .before)
+place-of-requires c κs = is-accepted _ _ (told (c .before .before))
 
 is-there-requires : tie.Need-is-there-requires
-is-there-requires c κs = (told (c .before .before .before), c .place-of .ensures)
+is-there-requires c κs = record { accepted = is-accepted _ _ (told (c .before .before .before)); place = c .place-of .ensures }
 
 refused-requires-3 : tie.Need-refused-requires-3
 refused-requires-3 c κs = search needs
@@ -104,16 +100,16 @@ refused-requires-3 c κs = search needs
 returns-4 : tie.Need-returns-4
 returns-4 c =
     let h = sym (c .before .before .is-there .ensures) ∙ not-true _ (c .before .if3 .taken) in
-    rw (c .refused3 .ensures) (refused-by _ _ _ _ _ (told (c .before .before .before .before .before .before)) (move-absent _ _ _ (inside (c .before .before .before .before)) (find-absent _ _ _ _ h)))
+    rw (c .refused3 .ensures) (refused-by _ _ _ _ _ (told (c .before .before .before .before .before .before)) (move-absent _ _ _ (inside (c .before .before .before .before)) (with-none _ _ _ _ h)))
 
 station-at-requires : tie.Need-station-at-requires
-station-at-requires c κs = room-at _ _ (told (c .before .before .before .before .before)) _ (lies c)
+station-at-requires c κs = let t = told (c .before .before .before .before .before) in room-at _ (is-accepted _ _ t) _ (rw (counted _ _ t) (lies c))
 
 is-movable-requires : tie.Need-is-movable-requires
 is-movable-requires c κs = search needs
 
 cast-refused-with : tie.Need-cast-refused-with
-cast-refused-with c = omega (arith, ok (c .before .before .before .before .before) .place, ok (c .before .before .before .before .before) .few)
+cast-refused-with c = let p = c .before .before .before .before .before in omega (arith, place-small _ _ (told (p .before .before .before)) _ _ (p .place-of .ensures))
 
 refused-with-requires : tie.Need-refused-with-requires
 refused-with-requires c κs = search needs
@@ -132,10 +128,16 @@ moved-requires : tie.Need-moved-requires
 moved-requires c κs = search needs
 
 first-conflict-requires : tie.Need-first-conflict-requires
-first-conflict-requires c κs = (told (c .before .before .before .before .before .before .before .before .before), rw (c .moved .ensures, c .before .before .before .station-at .ensures) (known-at _ _ (told (c .before .before .before .before .before .before .before .before .before)) _ (lies (c .before .before .before .before)) .sound))
+first-conflict-requires c κs =
+    let e = c .before .before .before .before in
+    let i = e .before .before .before in
+    let t = told (i .before .before) in
+    let k = known-at _ (is-accepted _ _ t) (e .before .before .place-of .result) (rw (counted _ _ t) (lies e)) in
+    rw (c .moved .ensures, c .before .before .before .station-at .ensures)
+    (record { accepted = is-accepted _ _ t; asked = record { low = i .before .if1 .left; high = i .if2 .left }; placed = k .placed })
 
 cast-refused-with-2 : tie.Need-cast-refused-with-2
-cast-refused-with-2 c = omega (arith, c .if5 .taken, ok (c .before .before .before .before .before .before .before .before) .few)
+cast-refused-with-2 c = omega (arith, c .if5 .taken, count-small _ _ (told (c .before .before .before .before .before .before .before .before .before .before .before)))
 
 refused-with-requires-2 : tie.Need-refused-with-requires-2
 refused-with-requires-2 c κs = search needs
@@ -145,15 +147,15 @@ returns-6 c =
     let q = c .before .before in
     let e = q .before .before .before .before .before in
     let d = which q in
-    let h = found _ _ _ _ d (ok (e .before .before) .count) (c .before .if5 .taken) in
+    let h = found _ _ _ _ d (length-stations (whole _ _ (told (e .before .before .before .before .before)))) (c .before .if5 .taken) in
     rw (c .refused-with2 .ensures) (refused-by _ _ _ _ _ (told (e .before .before .before .before .before)) (move-short _ _ _ (inside (e .before .before .before)) _ (at-place e) (free (q .before .before)) _ d h))
 
 grant-move-requires : tie.Need-grant-move-requires
 grant-move-requires c κs =
     let m = c .before .before .before in
     let e = m .before .before .before .before in
-    let o = own m in
-    (told (e .before .before .before .before .before), (rw o (e .before .before .place-of .ensures), (rw o (there e), same m)))
+    let t = told (e .before .before .before .before .before) in
+    record { accepted = is-accepted _ _ t; within = rw (counted _ _ t) (lies e); same = same m }
 
 same-length : tie.Need-same-length
 same-length c = search needs
@@ -164,7 +166,7 @@ returns-7 c =
     let m = q .before in
     let e = m .before .before .before .before in
     let d = which q in
-    let h = found-none _ _ _ _ d (ok (e .before .before) .count) (c .before .before .before .before .if5 .left) in
+    let h = found-none _ _ _ _ d (length-stations (whole _ _ (told (e .before .before .before .before .before)))) (c .before .before .before .before .if5 .left) in
     granted-by _ _ _ _ (told (e .before .before .before .before .before)) (move-granted _ _ _ (inside (e .before .before .before)) _ (at-place e) (free (m .before)) h) (rw (own m, new-channel m) at (c .before .before .grant-move .ensures))
 
 pub move-to-spec : {M : Type 1} → statement M

@@ -6,6 +6,8 @@ use Rattle.ground.specs.Lists.{some}
 use Rattle.stations.specs.Image.{stations, judged}
 use Rattle.stations.specs.Lists.{hasId}
 use Rattle.stations.specs.declared.Judged.the-variants.{Table}
+use Rattle.stations.proofs.Stages.{counted, is-accepted}
+use Rattle.changes.proofs.There.{within, own-id}
 use Rattle.changes.proofs.Ways.{table-out, refused-by, granted-by, withdraw-absent, withdraw-present}
 use borrow.Author.Needs.{needs}
 use Rattle.changes.proofs.withdraw.Statement.{statement}
@@ -33,10 +35,10 @@ returns : tie.Need-returns
 returns c = rw (c .left .ensures) (table-out _ _ _ _ _ (c .before .before .before .judge .ensures) (c .before .enum-told .given .1))
 
 place-of-requires : tie.Need-place-of-requires
-place-of-requires c κs = told c
+place-of-requires c κs = is-accepted _ _ (told c)
 
 is-there-requires : tie.Need-is-there-requires
-is-there-requires c κs = (told (c .before), c .place-of .ensures)
+is-there-requires c κs = record { accepted = is-accepted _ _ (told (c .before)); place = c .place-of .ensures }
 
 refused-requires : tie.Need-refused-requires
 refused-requires c κs = search needs
@@ -47,13 +49,19 @@ returns-2 c =
     rw (c .refused .ensures) (refused-by _ _ _ _ _ (told (c .before .before .before .before)) (withdraw-absent _ _ h))
 
 grant-withdraw-requires : tie.Need-grant-withdraw-requires
-grant-withdraw-requires c κs = (told (c .before .before .before .before), (c .before .before .before .place-of .ensures, there (c .before)))
+grant-withdraw-requires c κs =
+    let t = told (c .before .before .before .before) in
+    record { accepted = is-accepted _ _ t; within = rw (counted _ _ t) (within _ _ t _ _ (c .before .before .before .place-of .ensures) (there (c .before))) }
 
 same-length : tie.Need-same-length
 same-length c = search needs
 
 returns-3 : tie.Need-returns-3
-returns-3 c = granted-by _ _ _ _ (told (c .before .before .before .before .before .before .before)) (withdraw-present _ _ (there (c .before .before .before .before))) (c .before .before .grant-withdraw .ensures)
+returns-3 c =
+    let e = c .before .before .before .before in
+    let p = e .before .before in
+    let own = own-id _ _ (told (p .before)) _ _ (p .place-of .ensures) (there e) in
+    granted-by _ _ _ _ (told (p .before)) (withdraw-present _ _ (there e)) (rw own at (c .before .before .grant-withdraw .ensures))
 
 pub withdraw-spec : {M : Type 1} → statement M
 withdraw-spec =

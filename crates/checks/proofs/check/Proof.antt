@@ -7,7 +7,7 @@ use denote.Ref.{now}
 use borrow.Author.Needs.{needs}
 use Rattle.stations.specs.Image.{judged}
 use Rattle.stations.specs.declared.Judged.the-variants.{Table}
-use Rattle.stations.proofs.Table.{whole}
+use Rattle.stations.proofs.Stages.{is-accepted}
 use Rattle.desk.specs.Asked.{askedFault}
 use Rattle.desk.proofs.Answers.{table-refused, table-passed, asked-refused, asked-passed}
 use Rattle.desk.proofs.Asked.{fair}
@@ -15,26 +15,26 @@ use Rattle.checks.specs.Check.{checkedFor}
 use Rattle.checks.proofs.check.Statement.{statement}
 use Rattle.checks.proofs.check.Tie as tie
 
-told : (c : tie.After-known-told) → judged (now (c .before .before .before .before .before .before .args .table)) ≡ Table (c .before .j .given .0 .0)
-told c = sym (c .before .before .before .judge .ensures) ∙ c .before .j .given .1
+told : (c : tie.After-enum-told) → judged (now (c .before .before .before .before .before .args .table)) ≡ Table (c .enum-told .given .0 .0)
+told c = sym (c .before .before .judge .ensures) ∙ c .enum-told .given .1
 
-lat-back : (c : tie.After-struct-told) → let p = c .before .before .before .before .before .before .before .args .proposal in toZ w32 (ofZ w32 (p .latitude)) ≡ p .latitude
+lat-back : (c : tie.After-struct-told) → let p = c .before .before .before .before .before .before .args .proposal in toZ w32 (ofZ w32 (p .latitude)) ≡ p .latitude
 lat-back c = toZ-ofZ w32 _ (record { sfits = c .struct-told .given .1 .1 .1 .0 .1 })
 
-lon-back : (c : tie.After-struct-told) → let p = c .before .before .before .before .before .before .before .args .proposal in toZ w32 (ofZ w32 (p .longitude)) ≡ p .longitude
+lon-back : (c : tie.After-struct-told) → let p = c .before .before .before .before .before .before .args .proposal in toZ w32 (ofZ w32 (p .longitude)) ≡ p .longitude
 lon-back c = toZ-ofZ w32 _ (record { sfits = c .struct-told .given .1 .1 .1 .1 .0 .1 })
 
-verdict : (c : tie.After-asked-fault) → let p = c .before .before .before .before .before .before .before .before .before .args .proposal in c .asked-fault .result ≡ askedFault (p .channel) (p .channel) (p .class) (p .zone) (p .latitude) (p .longitude)
+verdict : (c : tie.After-asked-fault) → let p = c .before .before .before .before .before .before .before .before .args .proposal in c .asked-fault .result ≡ askedFault (p .channel) (p .channel) (p .class) (p .zone) (p .latitude) (p .longitude)
 verdict c = simp (lat-back (c .before .before), lon-back (c .before .before)) at (c .asked-fault .ensures)
 
 judge-requires : tie.Need-judge-requires
 judge-requires c κs = search needs
 
-enum-known-j : tie.Need-enum-known-j
-enum-known-j c = search needs
-
 enum-told : tie.Need-enum-told
 enum-told c = search needs
+
+enum-told-2 : tie.Need-enum-told-2
+enum-told-2 c = search needs
 
 left-requires : tie.Need-left-requires
 left-requires c κs = search needs
@@ -43,7 +43,7 @@ returns : tie.Need-returns
 unfolding checkedFor
 returns c =
     let j = c .before .before .before in
-    rw (c .left .ensures, ← j .judge .ensures) (table-refused _ _ _ _ (c .before .enum-told .given .1))
+    rw (c .left .ensures, ← j .judge .ensures) (table-refused _ _ _ _ (c .before .enum-told2 .given .1))
 
 asked-fault-requires : tie.Need-asked-fault-requires
 asked-fault-requires c κs = search needs
@@ -51,8 +51,15 @@ asked-fault-requires c κs = search needs
 enum-known-v : tie.Need-enum-known-v
 enum-known-v c = search needs
 
-enum-told-2 : tie.Need-enum-told-2
-enum-told-2 c = search needs
+returns-2 : tie.Need-returns-2
+unfolding checkedFor
+returns-2 c =
+    let v = c .before .before .before in
+    let t = v .before .before .before in
+    table-passed _ _ (told t) (rw (← verdict v) (asked-refused _ _ _ _ (c .before .v .given .1)))
+
+enum-told-3 : tie.Need-enum-told-3
+enum-told-3 c = search needs
 
 cast-list : tie.Need-cast-list
 cast-list c = search needs
@@ -62,17 +69,12 @@ cast-list-2 c = search needs
 
 list-requires : tie.Need-list-requires
 list-requires c κs =
-    let v = c .before .before .before in
-    let f = fair _ _ _ _ _ _ (sym (verdict v) ∙ c .before .enum-told2 .given .1) in
-    simp (lat-back (v .before .before), lon-back (v .before .before))
-    (told (v .before .before .before), record { low = f .low; high = f .high; sound = record { known = f .fits .known; placed = f .fits .placed } })
-
-returns-2 : tie.Need-returns-2
-unfolding checkedFor
-returns-2 c =
-    let v = c .before .before .before in
-    let t = v .before .before .before in
-    table-passed _ _ (told t) (rw (← verdict v) (asked-refused _ _ _ _ (c .before .v .given .1)))
+    let e = c .before in
+    let v = e .before .before in
+    let t = v .before .before in
+    let f = fair _ _ _ _ _ _ (sym (verdict v) ∙ e .enum-told3 .given .1) in
+    simp (lat-back t, lon-back t)
+    (record { accepted = is-accepted _ _ (told (t .before)); asked = record { low = f .low; high = f .high }; placed = record { known = f .fits .known; placed = f .fits .placed } })
 
 same-length : tie.Need-same-length
 same-length c = search needs
@@ -83,25 +85,24 @@ returns-3 c =
     let l = c .before .before in
     let e = l .before .before in
     let v = e .before .before in
-    let t = v .before .before .before in
-    let a = simp (lat-back (v .before .before), lon-back (v .before .before)) at (l .list .ensures) in
-    table-passed _ _ (told t) (rw (whole _ _ (told t) .counted) (asked-passed _ (sym (verdict v) ∙ e .enum-told2 .given .1) a))
+    let t = v .before .before in
+    table-passed _ _ (told (t .before)) (asked-passed _ (sym (verdict v) ∙ e .enum-told3 .given .1) (simp (lat-back t, lon-back t) at (l .list .ensures)))
 
 pub check-spec : {M : Type 1} → statement M
 check-spec =
     tie.close
     (tie.spec
     judge-requires
-    enum-known-j
     enum-told
+    enum-told-2
     left-requires
     returns
     asked-fault-requires
     enum-known-v
-    enum-told-2
+    returns-2
+    enum-told-3
     cast-list
     cast-list-2
     list-requires
-    returns-2
     same-length
     returns-3)

@@ -1,35 +1,41 @@
 -- `checks::list` meets its contract. Assumes nothing.
-use mathlib.Core.Path.{_≡_, sym, _∙_}
-use Prim.Native.Nat.{_≤_}
+use mathlib.Core.Path.{_≡_, refl, sym, ap, _∙_}
+use mathlib.Core.List.{List}
+use Prim.Native.Nat.{_*_, _≤_}
+use native.Mathlib.Nat.{le-trans}
 use native.Mathlib.Omega.{arith}
-use lib.ListN.{length}
+use lib.ListN.{length, take}
 use denote.Ref.{now}
-use mir.Facts.{toZ-ofZ}
 use borrow.Author.Needs.{needs}
-use Rattle.ground.specs.Rows.{flat}
-use Rattle.spacing.specs.Pair.{assignment}
-use Rattle.survey.specs.Ways.{everyRecord}
+use Rattle.ground.specs.Rows.{Row, flat}
+use Rattle.part73.specs.TableA.{tableA}
+use Rattle.spacing.specs.Pair.{sited}
+use Rattle.stations.specs.Image.{stationAt, stations}
+use Rattle.stations.specs.Version.{limit}
+use Rattle.stations.proofs.Versions.{limit-small}
+use Rattle.survey.specs.Ways.{studied}
 use Rattle.desk.proofs.Answers.{does-not-fit, written}
-use Rattle.checks.specs.Check.{shortRows}
-use Rattle.checks.proofs.Listing.{noted-few, need-is}
+use Rattle.checks.specs.Check.{rowOf, shortRows}
+use Rattle.checks.proofs.Listing.{noted-few, position, rows-noted, length-rows}
 use Rattle.checks.proofs.list.Statement.{statement}
 use Rattle.checks.proofs.list.Tie as tie
 
-need : (c : tie.After-numbers-of) → let s = c .before .before .before .before .before in length (flat (shortRows everyRecord (now (s .args .table)) (s .args .n) (assignment (s .args .channel) (s .args .class) (s .args .lat) (s .args .lon)))) ≡ c .numbers-of .result
+few : (c : tie.After-note-short) → c .note-short .result ≤ 4000
+few c = le-trans (noted-few (c .note-short .ensures)) limit-small
+
+need : (c : tie.After-note-short) → let s = c .before .before .before .before in length (flat (shortRows tableA (sited (s .args .place) (s .args .channel)) (studied (stations (now (s .args .table)))))) ≡ 3 * c .note-short .result
 need c =
-    let f = c .before in
-    let s = f .before .before .before .before in
-    let e = simp (toZ-ofZ (s .fits .lat), toZ-ofZ (s .fits .lon)) at (need-is _ _ _ _ (f .find .ensures)) in
-    e ∙ sym (c .numbers-of .ensures)
+    let s = c .before .before .before .before in
+    let w = c .note-short .ensures in
+    ap (λ (rs : List Row). length (flat rs)) (sym (rows-noted _ (s .pre .accepted) (sited (s .args .place) (s .args .channel)) w))
+    ∙ length-rows (λ j. rowOf tableA (sited (s .args .place) (s .args .channel)) (stationAt (now (s .args .table)) j)) _ (c .note-short .result) (omega (arith, w .long, noted-few w))
 
-few : (c : tie.After-numbers-of) → c .numbers-of .result ≤ 6000
-few c = omega (arith, c .numbers-of .ensures, noted-few (c .before .find .ensures))
+note-short-requires : tie.Need-note-short-requires
+unfolding limit
+note-short-requires c κs = let s = c .before .before .before in record { accepted = s .pre .accepted; asked = s .pre .asked; placed = s .pre .placed; long = refl }
 
-find-requires : tie.Need-find-requires
-find-requires c κs = search needs
-
-numbers-of-requires : tie.Need-numbers-of-requires
-numbers-of-requires c κs = noted-few (c .find .ensures)
+mul-need : tie.Need-mul-need
+mul-need c = omega (arith, few c)
 
 cast-extra : tie.Need-cast-extra
 cast-extra c = omega (arith, few (c .before))
@@ -40,20 +46,21 @@ refused-with-requires c κs = search needs
 returns : tie.Need-returns
 returns c =
     let m = c .before .before in
-    rw (c .refused-with .ensures) (does-not-fit _ _ _ (sym (need m)) (omega arith))
+    rw (c .refused-with .ensures) (does-not-fit _ _ _ (sym (need m)) (omega (arith, c .before .if1 .taken)))
 
-put-rows-requires : tie.Need-put-rows-requires
-put-rows-requires c κs =
-    let f = c .before .before .before .before in
-    let s = f .before .before .before .before in
-    (s .pre .0, (simp (toZ-ofZ (s .fits .lat), toZ-ofZ (s .fits .lon)) (s .pre .1 .sound), f .find .ensures))
+put-noted-requires : tie.Need-put-noted-requires
+put-noted-requires c κs =
+    let m = c .before .before .before in
+    let s = m .before .before .before .before in
+    let w = m .note-short .ensures in
+    record { accepted = s .pre .accepted; placed = s .pre .placed; long = w .long; few = noted-few w; each-one = position _ (s .pre .accepted) _ w }
 
 cast-count : tie.Need-cast-count
 cast-count c =
     let r = c .before .before in
     let m = r .before .before .before .before in
-    let s = m .before .before .before .before .before in
-    let w = simp (toZ-ofZ (s .fits .lat), toZ-ofZ (s .fits .lon)) at (r .put-rows .ensures) in
+    let s = m .before .before .before .before in
+    let w = rw (rows-noted _ (s .pre .accepted) (sited (s .args .place) (s .args .channel)) (m .note-short .ensures)) at (r .put-noted .ensures) in
     omega (arith, w .next, need m, few m)
 
 same-length : tie.Need-same-length
@@ -62,21 +69,22 @@ same-length c = search needs
 returns-2 : tie.Need-returns-2
 returns-2 c =
     let r = c .before .before in
-    let m = r .before .before .before .before in
-    let s = m .before .before .before .before .before in
-    let w = simp (toZ-ofZ (s .fits .lat), toZ-ofZ (s .fits .lon)) at (r .put-rows .ensures) in
-    written _ _ _ _ w (omega (arith, need m, r .before .before .before .if1 .left))
+    let e = r .before .before .before in
+    let m = e .before in
+    let s = m .before .before .before .before in
+    let w = rw (rows-noted _ (s .pre .accepted) (sited (s .args .place) (s .args .channel)) (m .note-short .ensures)) at (r .put-noted .ensures) in
+    written _ _ _ _ w (omega (arith, need m, e .if1 .left))
 
 pub list-spec : {M : Type 1} → statement M
 list-spec =
     tie.close
     (tie.spec
-    find-requires
-    numbers-of-requires
+    note-short-requires
+    mul-need
     cast-extra
     refused-with-requires
     returns
-    put-rows-requires
+    put-noted-requires
     cast-count
     same-length
     returns-2)

@@ -4,7 +4,7 @@ use native.Mathlib.Omega.{arith}
 use mir.Facts.{toZ-ofZ}
 use borrow.Author.Tests.{not-false}
 use Rattle.ground.proofs.Guards.{guards}
-use Rattle.distance.specs.Distance.{S, km, Placed}
+use Rattle.distance.specs.Distance.{S, D, Placed}
 use Rattle.distance.proofs.Squares.{S-size}
 use Rattle.desk.specs.Asked.{siteOk}
 use Rattle.desk.specs.Questions.{distanceOf}
@@ -31,8 +31,8 @@ square c =
     let s = c .before .before .before .before .before in
     simp (toZ-ofZ (s .fits .lat1), toZ-ofZ (s .fits .lon1), toZ-ofZ (s .fits .lat2), toZ-ofZ (s .fits .lon2)) at (c .squared .ensures)
 
-rounded : (c : tie.After-rounded-km) → let s = c .before .before .before .before .before .before in km (S (s .args .lat1) (s .args .lon1) (s .args .lat2) (s .args .lon2)) ≡ c .rounded-km .result
-rounded c = sym (c .rounded-km .ensures ∙ ap km (square (c .before)))
+rounded : (c : tie.After-rounded-km) → let s = c .before .before .before .before .before .before in D (S (s .args .lat1) (s .args .lon1) (s .args .lat2) (s .args .lon2)) ≡ c .rounded-km .result
+rounded c = sym (c .rounded-km .ensures ∙ ap D (square (c .before)))
 
 site-ok-requires : tie.Need-site-ok-requires
 site-ok-requires c κs = search needs

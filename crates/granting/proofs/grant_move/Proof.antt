@@ -1,57 +1,26 @@
 -- `granting::grant_move` meets its contract. Assumes nothing.
-use mathlib.Core.List.{[], _∷_}
-use Prim.Native.Nat.{_+_}
 use native.Mathlib.Omega.{arith}
-use lib.ListN.{length}
-use Rattle.stations.specs.Image.{stations}
-use Rattle.granting.specs.Lists.{rechannel}
-use Rattle.granting.proofs.Plan.{Plan, move-plan, no-room, room-with, granted-with}
+use Rattle.stations.proofs.Table.{whole}
+use Rattle.granting.proofs.Plan.{move-plan, move-is}
 use borrow.Author.Needs.{needs}
 use Rattle.granting.proofs.grant_move.Statement.{statement}
 use Rattle.granting.proofs.grant_move.Tie as tie
 
-plan : (c : tie.Start) → let a = c .args in Plan (a .table .now) (a .n) (a .p) (a .p + 1) (a .n) (length (a .table .now)) (a .r ∷ []) (rechannel (a .r .id) (a .r .channel) (stations (a .table .now)))
-plan c = move-plan _ _ (c .pre .0) _ _ (c .pre .1 .0) (c .pre .1 .1 .0) (c .args .r) (c .pre .1 .1 .1)
+count-of-requires : tie.Need-count-of-requires
+count-of-requires c κs = omega (arith, whole _ _ (c .before .before .pre .accepted) .long)
 
-cast-told : tie.Need-cast-told
-cast-told c = let k = plan (c .before .before) in omega (arith, k .size, k .few)
+add-grant-with : tie.Need-add-grant-with
+add-grant-with c = search needs
 
-refused-with-requires : tie.Need-refused-with-requires
-refused-with-requires c κs = search needs
-
-returns : tie.Need-returns
-returns c = rw (c .refused-with .ensures) (no-room (plan (c .before .before .before .before)) (c .before .if1 .taken))
-
-add-next : tie.Need-add-next
-add-next c = omega (arith, plan (c .before .before .before) .back)
-
-version-for-requires : tie.Need-version-for-requires
-version-for-requires c κs = search needs
-
-cast-write-with : tie.Need-cast-write-with
-cast-write-with c = omega (arith, plan (c .before .before .before .before) .few)
-
-write-with-requires : tie.Need-write-with-requires
-write-with-requires c κs = room-with (plan (c .before .before .before .before .before)) (c .before .before .if1 .left)
+grant-with-requires : tie.Need-grant-with-requires
+grant-with-requires c κs = move-plan (c .before .before .before .before .pre) (c .before .count-of .ensures)
 
 same-length : tie.Need-same-length
 same-length c = search needs
 
-returns-2 : tie.Need-returns-2
-returns-2 c =
-    let s = c .before .before .before .before .before .before .before in
-    granted-with (plan (s .before)) (λ i. s .shared-slice-known .given i .fits) (c .before .before .before .before .version-for .ensures) (c .before .before .before .before .before .if1 .left) (c .before .before .write-with .ensures)
+returns : tie.Need-returns
+returns c = rw (move-is (c .before .before .before .before .before .before .before .pre)) (c .before .before .grant-with .ensures)
 
 pub grant-move-spec : {M : Type 1} → statement M
 grant-move-spec =
-    tie.close
-    (tie.spec
-    cast-told
-    refused-with-requires
-    returns
-    add-next
-    version-for-requires
-    cast-write-with
-    write-with-requires
-    same-length
-    returns-2)
+    tie.close (tie.spec count-of-requires add-grant-with grant-with-requires same-length returns)

@@ -1,56 +1,109 @@
 -- `listing::list` meets its contract. Assumes nothing.
-use Prim.Native.Nat.{_+_, _-_, _*_, _≤_, max}
+use mathlib.Core.Path.{_≡_, ap, _∙_}
+use Prim.Native.Nat.{ℕ, _+_, _-_, _*_, _≤_, _<_}
 use native.Mathlib.Omega.{arith}
-use Rattle.stations.specs.Image.{stationAt}
-use Rattle.listing.specs.Listing.{channelRows, allRows}
-use Rattle.ground.proofs.Writes.{Walking, walk-start, walk-turn, walk-end, walk-length}
+use lib.ListN.{length, take, drop}
+use denote.Ref.{now}
+use borrow.Rule.Slice.PartMut.{mid-len}
+use Rattle.ground.proofs.Writes.{Walking, walk-start, walk-turn, walk-end, walk-length, wrote-as}
+use Rattle.part73.specs.Channels.{lowest, highest, channelCount}
+use Rattle.survey.specs.Marks.{markOf}
+use Rattle.planning.specs.Flags.{start}
+use Rattle.listing.specs.Listing.{idAt, markRows, channelRows, allRows}
 use Rattle.listing.proofs.Marking.{all-of}
 use Rattle.listing.proofs.list.Statement.{statement}
 use Rattle.listing.proofs.list.Tie as tie
 
 abbrev Inv-loop : tie.InvT-loop
-Inv-loop table n first last marks moves rows₀ at₀ c₀ rows at c =
-    (first ≤ c) × (c ≤ max first (last + 1)) × (at ≤ 240 * (c - first))
-    × Walking (channelRows (λ j. stationAt table j .id) marks first moves) (last + 1) c at rows (allRows (λ j. stationAt table j .id) marks first last moves) 0 rows₀
+Inv-loop table marks moves rows₀ first last at₀ c₀ rows at c =
+    (first ≤ c) × (c ≤ last + 1) × (at ≤ 3 * channelCount * (c - first))
+    × Walking (channelRows (idAt table) marks first moves) (last + 1) c at rows (allRows (idAt table) marks (record { first = first; last = last }) moves) 0 rows₀
 
 abbrev μ-loop : tie.MeasureT-loop
-μ-loop table n first last marks moves rows₀ at₀ c₀ rows at c = last + 1 - c
+μ-loop table marks moves rows₀ first last at₀ c₀ rows at c = last + 1 - c
 
 loop-holds : tie.Need-loop-holds Inv-loop μ-loop
-loop-holds c = (omega arith, omega arith, omega arith, walk-start _ _ _ _ _ _ (all-of _ _ _))
+loop-holds c = (omega arith, omega (arith, c .before .before .before .pre .asked), omega arith, walk-start _ _ _ _ _ _ (all-of _ _ _))
+
+-- a new channel's turn
+module _ (c : tie.In-loop Inv-loop μ-loop) where
+  abbrev at : tie.At-loop Inv-loop μ-loop
+  at = c .before
+
+  abbrev s : tie.Start Inv-loop μ-loop
+  s = at .before .before .before .before
+
+  low : lowest ≤ at .loop .c
+  low = omega (arith, at .loop .inv, s .pre .asked)
+
+  high : at .loop .c ≤ highest
+  high = omega (arith, c .loop-test .taken, s .pre .asked)
+
+  within : start (s .args .channels .first) (at .loop .c) + channelCount ≤ length (now (s .args .moves))
+  within = omega (arith, at .loop .inv, c .loop-test .taken, s .pre .room)
+
+  small : at .loop .c - s .args .channels .first < channelCount
+  small = omega (arith, high, s .pre .asked)
 
 sub-k : tie.Need-sub-k Inv-loop μ-loop
-sub-k c = omega arith
+sub-k c = low c
 
-mul-list-channel : tie.Need-mul-list-channel Inv-loop μ-loop
-mul-list-channel c = omega arith
+mul-mark : tie.Need-mul-mark Inv-loop μ-loop
+mul-mark c = omega (arith, high c)
 
-element-copy-out-list-channel : tie.Need-element-copy-out-list-channel Inv-loop μ-loop
-element-copy-out-list-channel c = omega arith
+element-copy-out-mark : tie.Need-element-copy-out-mark Inv-loop μ-loop
+element-copy-out-mark c = omega (arith, high c)
+
+sub-a : tie.Need-sub-a Inv-loop μ-loop
+sub-a c = omega arith
+
+mul-a : tie.Need-mul-a Inv-loop μ-loop
+mul-a c = omega (arith, small (c .before))
+
+add-b : tie.Need-add-b Inv-loop μ-loop
+add-b c = omega (arith, small (c .before))
+
+sub-list-channel : tie.Need-sub-list-channel Inv-loop μ-loop
+sub-list-channel c = omega arith
+
+part-list-channel-start : tie.Need-part-list-channel-start Inv-loop μ-loop
+part-list-channel-start c = omega arith
+
+part-list-channel-end : tie.Need-part-list-channel-end Inv-loop μ-loop
+part-list-channel-end c = within (c .before)
 
 list-channel-requires : tie.Need-list-channel-requires Inv-loop μ-loop
 list-channel-requires c κs =
-    let l = c .before .before .before .loop in
-    let s = c .before .before .before .before .before .before .before in
-    (s .pre .0, (s .pre .1 .0 .at (l .c) (omega arith) (omega arith), (omega (arith, l .inv, s .pre .1 .1), (omega arith, (omega arith, omega (arith, l .inv, s .pre .1 .1))))))
+    let i = c .before .before .before in
+    let l = at i .loop in
+    record {
+      surveyed = record { accepted = s i .pre .accepted; known = s i .pre .known (l .c) (l .inv .0) (i .loop-test .taken) };
+      station = record { long = mid-len _ _ (now (s i .args .moves)) (within i) ∙ omega arith; high = high i; few = omega (arith, l .inv, small i) };
+    }
 
 add-c : tie.Need-add-c Inv-loop μ-loop
-add-c c = omega arith
+add-c c = omega (arith, high (c .before .before .before .before .before .before))
 
 loop-less : tie.Need-loop-less Inv-loop μ-loop
 loop-less c = omega arith
 
 loop-again : tie.Need-loop-again Inv-loop μ-loop
 loop-again c =
-    let inv = c .before .before .before .before .before .before .loop .inv in
-    let e = c .before .before .list-channel .ensures in
-    (omega arith, omega arith, omega (arith, e .1, inv), walk-turn (omega arith) (inv .3) (e .0))
+    let e = c .before .before in
+    let i = e .before .before .before .before in
+    let l = at i .loop in
+    let first = s i .args .channels .first in
+    let n : start first (l .c) + channelCount - start first (l .c) ≡ channelCount = omega arith in
+    let row = ap (λ (k : ℕ). markRows (idAt (now (s i .args .table))) (take k (drop (start first (l .c)) (now (s i .args .moves)))) (l .c) (markOf (now (s i .args .marks)) (l .c))) n in
+    (omega (arith, l .inv), omega (arith, i .loop-test .taken), omega (arith, e .list-channel .ensures .1, l .inv), walk-turn (omega (arith, i .loop-test .taken)) (l .inv .3) (wrote-as row (e .list-channel .ensures .0)))
 
 same-length : tie.Need-same-length Inv-loop μ-loop
 same-length c = walk-length (c .before .loop .inv .3)
 
 returns : tie.Need-returns Inv-loop μ-loop
-returns c = (walk-end (omega arith) (c .before .loop .inv .3), omega (arith, c .before .loop .inv, c .before .before .before .before .before .pre .1 .1))
+returns c =
+    let l = c .before .loop in
+    (walk-end (omega arith) (l .inv .3), omega (arith, l .inv, c .before .before .before .before .before .pre .asked))
 
 pub list-spec : {M : Type 1} → statement M
 list-spec =
@@ -60,8 +113,14 @@ list-spec =
     μ-loop
     loop-holds
     sub-k
-    mul-list-channel
-    element-copy-out-list-channel
+    mul-mark
+    element-copy-out-mark
+    sub-a
+    mul-a
+    add-b
+    sub-list-channel
+    part-list-channel-start
+    part-list-channel-end
     list-channel-requires
     add-c
     loop-less

@@ -1,36 +1,26 @@
 -- `listing::list_moves` meets its contract. Assumes nothing.
 use mathlib.Core.Path.{refl}
-use Prim.Native.Nat.{_-_, _≤_}
+use Prim.Native.Nat.{_+_, _-_, _≤_}
 use native.Mathlib.Omega.{arith}
 use denote.Ref.{now}
-use Rattle.ground.specs.Lists.{span, each}
-use Rattle.listing.specs.Listing.{moveAt}
+use Rattle.part73.specs.Channels.{lowest, highest}
+use Rattle.listing.specs.Listing.{moveAt, moveRows}
 use Rattle.ground.proofs.Writes.{Walking, walk-start, walk-turn, walk-end, walk-length}
 use Rattle.listing.proofs.Marking.{moves-bound}
 use Rattle.listing.proofs.list_moves.Statement.{statement}
 use Rattle.listing.proofs.list_moves.Tie as tie
 
 abbrev Inv-loop : tie.InvT-loop
-Inv-loop moves id first c rows₀ at to₀ m₀ rows to m =
-    (221 ≤ m) × (m ≤ 301) × Walking (moveAt first moves id c) 301 m to rows (each (moveAt first moves id c) (span 221 80)) at rows₀
+Inv-loop row id c rows₀ at to₀ m₀ rows to m = (lowest ≤ m) × (m ≤ highest + 1) × Walking (moveAt row id c) (highest + 1) m to rows (moveRows row id c) at rows₀
 
 abbrev μ-loop : tie.MeasureT-loop
-μ-loop moves id first c rows₀ at to₀ m₀ rows to m = 301 - m
+μ-loop row id c rows₀ at to₀ m₀ rows to m = highest + 1 - m
 
 loop-holds : tie.Need-loop-holds Inv-loop μ-loop
 loop-holds c = (omega arith, omega arith, walk-start _ _ _ _ _ _ refl)
 
 sub-k : tie.Need-sub-k Inv-loop μ-loop
 sub-k c = omega arith
-
-mul-k : tie.Need-mul-k Inv-loop μ-loop
-mul-k c = omega arith
-
-sub-k-2 : tie.Need-sub-k-2 Inv-loop μ-loop
-sub-k-2 c = omega arith
-
-add-k : tie.Need-add-k Inv-loop μ-loop
-add-k c = omega arith
 
 shared-slice-read-put-row-if : tie.Need-shared-slice-read-put-row-if Inv-loop μ-loop
 shared-slice-read-put-row-if c = omega arith
@@ -45,7 +35,7 @@ put-row-if-requires : tie.Need-put-row-if-requires Inv-loop μ-loop
 put-row-if-requires c κs =
     let l = c .before .before .before in
     let s = l .before .before .before in
-    omega (arith, l .loop .inv .2 .places, moves-bound (s .args .first) (now (s .args .moves)) (s .args .id) (s .args .c), s .pre .0)
+    omega (arith, l .loop .inv .2 .places, moves-bound (now (s .args .row)) (s .args .id) (s .args .c), s .pre .few)
 
 add-m : tie.Need-add-m Inv-loop μ-loop
 add-m c = omega arith
@@ -71,9 +61,6 @@ list-moves-spec =
     μ-loop
     loop-holds
     sub-k
-    mul-k
-    sub-k-2
-    add-k
     shared-slice-read-put-row-if
     cast-put-row-if
     cast-put-row-if-2

@@ -3,12 +3,12 @@ use mathlib.Core.Path.{refl}
 use Prim.Native.Nat.{_-_, _/_, _%_}
 use native.Mathlib.Omega.{arith}
 use Rattle.ground.proofs.Filling.{Filled, fill-start, fill-turn}
-use Rattle.part73.specs.TableA.{km}
+use Rattle.part73.specs.TableA.{tableA}
 use Rattle.part73.proofs.separations_of.Statement.{statement}
 use Rattle.part73.proofs.separations_of.Tie as tie
 
 abbrev Inv-loop : tie.InvT-loop
-Inv-loop class table out₀ k₀ out k = Filled (λ j. km class (j / 4) (j % 4)) out 32 k
+Inv-loop class table out₀ k₀ out k = Filled (λ j. tableA class (j / 4) (j % 4)) out 32 k
 
 abbrev μ-loop : tie.MeasureT-loop
 μ-loop class table out₀ k₀ out k = 32 - k

@@ -1,32 +1,26 @@
 -- `planning::fill_row` meets its contract. Assumes nothing.
-use Prim.Native.Nat.{_-_}
+use Prim.Native.Nat.{_+_, _-_}
 use native.Mathlib.Omega.{arith}
-use lib.ListN.{getD}
+use Rattle.part73.specs.Channels.{highest}
+use Rattle.part73.specs.Columns.{gap}
+use Rattle.spacing.specs.Reaching.{hits}
+use Rattle.survey.specs.Marks.{markOf}
 use Rattle.planning.specs.Flags.{goes}
 use Rattle.planning.proofs.Rowing.{Rowing, row-start, row-turn, row-end}
 use Rattle.planning.proofs.fill_row.Statement.{statement}
 use Rattle.planning.proofs.fill_row.Tie as tie
 
 abbrev Inv-loop : tie.InvT-loop
-Inv-loop kept mark own first c w far moves₀ m₀ moves m = Rowing (λ x. goes (getD kept (x - 221) 0) mark x own c w far) first c moves₀ moves m
+Inv-loop kept mark own c row₀ steps far m₀ row m = Rowing (λ x. goes (markOf kept x) mark x own (hits (record { steps = steps; far = far }) (gap c x))) row m
 
 abbrev μ-loop : tie.MeasureT-loop
-μ-loop kept mark own first c w far moves₀ m₀ moves m = 301 - m
+μ-loop kept mark own c row₀ steps far m₀ row m = highest + 1 - m
 
 loop-holds : tie.Need-loop-holds Inv-loop μ-loop
-loop-holds c = row-start _ _ _ _
+loop-holds c = row-start _ _ (c .before .pre)
 
 sub-k : tie.Need-sub-k Inv-loop μ-loop
 sub-k c = omega arith
-
-sub-p : tie.Need-sub-p Inv-loop μ-loop
-sub-p c = omega arith
-
-mul-p : tie.Need-mul-p Inv-loop μ-loop
-mul-p c = omega arith
-
-add-p : tie.Need-add-p Inv-loop μ-loop
-add-p c = omega arith
 
 mul-there : tie.Need-mul-there Inv-loop μ-loop
 mul-there c = omega arith
@@ -37,8 +31,8 @@ element-copy-out-there c = omega arith
 may-go-requires : tie.Need-may-go-requires Inv-loop μ-loop
 may-go-requires c κs = tt
 
-slice-write-moves : tie.Need-slice-write-moves Inv-loop μ-loop
-slice-write-moves c = omega arith
+slice-write-row : tie.Need-slice-write-row Inv-loop μ-loop
+slice-write-row c = omega arith
 
 add-m : tie.Need-add-m Inv-loop μ-loop
 add-m c = omega arith
@@ -47,12 +41,10 @@ loop-less : tie.Need-loop-less Inv-loop μ-loop
 loop-less c = omega arith
 
 loop-again : tie.Need-loop-again Inv-loop μ-loop
-loop-again c =
-    let l = c .before .before .before in
-    row-turn (l .loop .inv) (l .before .before .pre .1) (omega arith) (c .may-go .ensures)
+loop-again c = row-turn (c .before .before .before .loop .inv) (omega arith) (c .may-go .ensures)
 
 same-length : tie.Need-same-length Inv-loop μ-loop
-same-length c = c .before .loop .inv .long
+same-length c = omega arith
 
 returns : tie.Need-returns Inv-loop μ-loop
 returns c = row-end (c .before .loop .inv) (c .loop-test .left)
@@ -65,13 +57,10 @@ fill-row-spec =
     μ-loop
     loop-holds
     sub-k
-    sub-p
-    mul-p
-    add-p
     mul-there
     element-copy-out-there
     may-go-requires
-    slice-write-moves
+    slice-write-row
     add-m
     loop-less
     loop-again

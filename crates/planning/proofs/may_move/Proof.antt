@@ -4,8 +4,10 @@ use mathlib.Core.Logic.{⊎-elim}
 use Prim.Native.Nat.{_-_, _<_}
 use native.Mathlib.Omega.{arith}
 use borrow.Author.Tests.{eq-eqb, ne-eqb}
-use Rattle.survey.proofs.Records.{room-at}
+use denote.Ref.{now}
+use Rattle.stations.specs.Image.{count}
 use Rattle.stations.specs.Lists.{movable}
+use Rattle.survey.proofs.Records.{room-at}
 use borrow.Author.Needs.{needs}
 use Rattle.planning.proofs.may_move.Statement.{statement}
 use Rattle.planning.proofs.may_move.Tie as tie
@@ -20,13 +22,11 @@ sub-station-at : tie.Need-sub-station-at
 sub-station-at c = search needs
 
 -- a mark that is neither 0 nor `many` is of a station of the table
-within : (c : tie.Else2) → c .before .before .before .args .mark - 1 < c .before .before .before .args .n
-within c =
-    let s = c .before .before .before in
-    ⊎-elim (λ h. omega (arith, c .before .if1 .left)) (λ h. absurd (c .if2 .left h)) (s .pre .1)
+within : (c : tie.Else2) → let s = c .before .before .before in s .args .mark - 1 < count (now (s .args .table))
+within c = ⊎-elim (λ h. omega (arith, c .before .if1 .left)) (λ h. absurd (c .if2 .left h)) (c .before .before .before .pre .known)
 
 station-at-requires : tie.Need-station-at-requires
-station-at-requires c κs = room-at _ _ (c .before .before .before .pre .0) _ (within c)
+station-at-requires c κs = room-at _ (c .before .before .before .pre .accepted) _ (within c)
 
 is-movable-requires : tie.Need-is-movable-requires
 is-movable-requires c κs = search needs

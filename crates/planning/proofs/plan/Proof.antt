@@ -1,71 +1,173 @@
 -- `planning::plan` meets its contract. Assumes nothing.
-use mathlib.Core.Path.{_≡_, refl}
-use Prim.Native.Nat.{suc, _+_, _-_, _≤_}
+use mathlib.Core.Path.{_≡_, refl, sym, _∙_}
+use mathlib.Core.Bool.{Bool, true}
+use mathlib.Core.List.{List}
+use mathlib.Core.Logic.{⊎-elim}
+use Prim.Native.Nat.{ℕ, suc, _+_, _-_, _≤_}
 use native.Mathlib.Omega.{arith}
 use lib.ListN.{length}
-use mir.Syntax.{w32}
-use mir.Val.{toZ}
-use mir.Facts.{toZ-ofZ}
+use denote.Ref.{now}
+use borrow.Rule.Slice.PartMut.{midOf, mid-len}
+use Rattle.part73.specs.Channels.{channelCount}
+use Rattle.part73.specs.TableA.{tableA}
+use Rattle.spacing.specs.declared.Place.{Place}
+use Rattle.stations.specs.Image.{count}
 use Rattle.survey.specs.Ways.{everyRecord}
-use Rattle.planning.specs.Scene.{scene}
-use Rattle.planning.specs.Flags.{Kept, Planned}
-use Rattle.planning.proofs.Going.{plan-start, planned-turn}
+use Rattle.survey.specs.Marks.{seen, markOf}
+use Rattle.planning.specs.Scene.{scene, sceneOf}
+use Rattle.planning.specs.Flags.{Mark, mayMove, Kept, start, Right, Planned}
+use Rattle.planning.specs.Planning.{Single}
+use Rattle.planning.proofs.Rowing.{Turned, turned, unturned}
+use Rattle.planning.proofs.Going.{moves-yes, marks-one, right-kept, right-down, plan-start, plan-turn}
 use Rattle.planning.proofs.plan.Statement.{statement}
 use Rattle.planning.proofs.plan.Tie as tie
 
+-- where the rows of the new channels before c are done
+record Turns (s : List ℕ) (p : Place) (first last : ℕ) (moves₀ moves : List Bool) (kept : List ℕ) (whose c : ℕ) : Type 0 where
+  low : first ≤ c
+  high : c ≤ last + 1
+  long : length moves ≡ length moves₀
+  held : Kept tableA everyRecord s whose kept
+  planned : Planned (sceneOf s p) first c moves
+
+-- one more
+next : {s : List ℕ} {p : Place} {first last : ℕ} {moves₀ moves row moves′ : List Bool} {kept kept′ : List ℕ} {whose whose′ c v : ℕ} → Turns s p first last moves₀ moves kept whose c → c ≤ last → Turned first c row moves moves′
+    → Kept tableA everyRecord s whose′ kept′ → v ≡ seen (sceneOf s p .new c) (count s) → Right (sceneOf s p) c v row → Turns s p first last moves₀ moves′ kept′ whose′ (c + 1)
+unfolding scene
+next i h u k e r = record { low = omega (arith, i .low); high = omega arith; long = u .long ∙ i .long; held = k; planned = plan-turn (i .low) (i .planned) u e r }
+
 abbrev Inv-loop : tie.InvT-loop
-Inv-loop table n class near lat lon first last marks moves₀ kept₀ whose₀ c₀ moves kept whose c =
-    (first ≤ c) × (c ≤ last + 1) × (length moves ≡ length moves₀) × Kept everyRecord table n whose kept
-    × Planned (scene everyRecord table n class (toZ w32 lat) (toZ w32 lon)) first c moves
+Inv-loop table place limits marks moves₀ first last kept₀ whose₀ c₀ moves kept whose c = Turns table place first last moves₀ moves kept whose c
 
 abbrev μ-loop : tie.MeasureT-loop
-μ-loop table n class near lat lon first last marks moves₀ kept₀ whose₀ c₀ moves kept whose c = last + 1 - c
+μ-loop table place limits marks moves₀ first last kept₀ whose₀ c₀ moves kept whose c = last + 1 - c
 
 loop-holds : tie.Need-loop-holds Inv-loop μ-loop
 loop-holds c =
     let s = c .before .before in
-    (omega arith, omega arith, refl, record { long = refl; of = λ h. absurd (omega arith) }, plan-start _ _ _ (s .pre .1 .1 .1 .0))
+    record {
+      low = omega arith;
+      high = omega (arith, s .pre .asked);
+      long = refl;
+      held = record { long = refl; of = λ h. absurd (omega arith) };
+      planned = plan-start _ (s .pre .down);
+    }
 
 sub-k : tie.Need-sub-k Inv-loop μ-loop
-sub-k c = omega arith
+sub-k c = let s = c .before .before .before .before in omega (arith, s .pre .asked)
 
 mul-mark : tie.Need-mul-mark Inv-loop μ-loop
-mul-mark c = omega arith
+mul-mark c = let s = c .before .before .before .before in omega (arith, s .pre .asked)
 
 element-copy-out-mark : tie.Need-element-copy-out-mark Inv-loop μ-loop
-element-copy-out-mark c = omega arith
+element-copy-out-mark c = let s = c .before .before .before .before in omega (arith, s .pre .asked)
 
-turn-requires : tie.Need-turn-requires Inv-loop μ-loop
-turn-requires c κs =
-    let a = c .before .before .before .before in
-    let l = a .loop in
-    let s = a .before .before .before in
-    simp (toZ-ofZ (s .fits .lat), toZ-ofZ (s .fits .lon))
-    (s .pre .0, ((s .pre .1 .0 .0, (s .pre .1 .0 .1 .0, (omega arith, (omega arith, omega (arith, l .inv .2, s .pre .1 .1 .1 .1))))), (s .pre .1 .1 .0 .at (l .c) (omega arith) (omega arith), (l .inv .3, l .inv .4 .down))))
+-- the mark of a new channel
+module _ (c : tie.After-mark Inv-loop μ-loop) where
+  abbrev at : tie.At-loop Inv-loop μ-loop
+  at = c .before .before
+
+  abbrev s : tie.Start Inv-loop μ-loop
+  s = at .before .before .before
+
+  abbrev table : List ℕ
+  table = now (s .args .table)
+
+  abbrev mark : ℕ
+  mark = markOf (now (s .args .marks)) (at .loop .c)
+
+  is : mark ≡ seen (sceneOf table (s .args .place) .new (at .loop .c)) (count table)
+  is = s .pre .marked .at (at .loop .c) (at .loop .inv .low) (c .before .loop-test .taken)
+
+  known : Mark (count table) mark
+  known = marks-one table (s .args .place) (at .loop .c) is
+
+  -- the row of c stands within the flags
+  within : start (s .args .channels .first) (at .loop .c) + channelCount ≤ length (at .loop .moves)
+  within = omega (arith, at .loop .inv .low, at .loop .inv .long, c .before .loop-test .taken, s .pre .room)
+
+-- one station alone stands in the way, and may move
+module _ (c : tie.Then1 Inv-loop μ-loop) where
+  abbrev m : tie.After-mark Inv-loop μ-loop
+  m = c .before .before
+
+  moves : mayMove (table m) (mark m) ≡ true
+  moves = sym (c .before .may-move .ensures) ∙ c .if1 .taken
+
+  row-long : length (midOf (start (s m .args .channels .first) (at m .loop .c)) (start (s m .args .channels .first) (at m .loop .c) + channelCount - start (s m .args .channels .first) (at m .loop .c)) (at m .loop .moves)) ≡ channelCount
+  row-long = mid-len _ _ (at m .loop .moves) (within m) ∙ omega arith
+
+  single : Single (count (table m)) (mark m)
+  single = moves-yes (table m) (mark m) (known m) moves .0
+
+may-move-requires : tie.Need-may-move-requires Inv-loop μ-loop
+may-move-requires c κs = record { accepted = s c .pre .walk .accepted; known = known c }
+
+survey-from-requires : tie.Need-survey-from-requires Inv-loop μ-loop
+survey-from-requires c κs =
+    let t = c .before in
+    record { accepted = s (m t) .pre .walk .accepted; single = single t; held = at (m t) .loop .inv .held }
+
+sub-a : tie.Need-sub-a Inv-loop μ-loop
+sub-a c = at (m (c .before .before)) .loop .inv .low
+
+mul-a : tie.Need-mul-a Inv-loop μ-loop
+mul-a c = let w = within (m (c .before .before)) in omega (arith, w, s (m (c .before .before)) .good)
+
+add-b : tie.Need-add-b Inv-loop μ-loop
+add-b c = let w = within (m (c .before .before)) in omega (arith, w, s (m (c .before .before)) .good)
+
+sub-flag-moves : tie.Need-sub-flag-moves Inv-loop μ-loop
+sub-flag-moves c = omega arith
+
+part-flag-moves-start : tie.Need-part-flag-moves-start Inv-loop μ-loop
+part-flag-moves-start c = omega arith
+
+part-flag-moves-end : tie.Need-part-flag-moves-end Inv-loop μ-loop
+part-flag-moves-end c = within (m (c .before .before .before))
+
+flag-moves-requires : tie.Need-flag-moves-requires Inv-loop μ-loop
+flag-moves-requires c κs =
+    let t = c .before .before .before .before in
+    let l = at (m t) .loop in
+    record {
+      walk = s (m t) .pre .walk;
+      low = omega (arith, s (m t) .pre .asked .low, l .inv .low);
+      single = single t;
+      long = row-long t;
+    }
 
 add-c : tie.Need-add-c Inv-loop μ-loop
-add-c c = omega arith
+add-c c = let n = c .before .before in omega (arith, n .before .loop-test .taken, s n .pre .asked .high)
 
 loop-less : tie.Need-loop-less Inv-loop μ-loop
-loop-less c = omega arith
+loop-less c = omega (arith, c .before .before .before .loop-test .taken)
 
 loop-again : tie.Need-loop-again Inv-loop μ-loop
 loop-again c =
-    let u = c .before .before in
-    let i = u .before .before .before .before in
-    let l = i .before .loop in
-    let s = i .before .before .before .before in
-    (omega arith, omega (arith, i .loop-test .taken), omega (arith, u .turn .kept, l .inv .2), u .turn .ensures .0, planned-turn _ _ _ _ _ (l .inv .0) (simp (toZ-ofZ (s .fits .lat), toZ-ofZ (s .fits .lon)) (s .pre .1 .1 .0 .at (l .c) (omega arith) (omega (arith, i .loop-test .taken)))) (l .inv .4) (u .turn .ensures .1))
+    let n = c .before .before in
+    let i = at n .loop .inv in
+    let on = n .before .loop-test .taken in
+    ⊎-elim
+    (λ w.
+    let t : tie.Then1 Inv-loop μ-loop = record { before = c .before; if1 = w .0 } in
+    let e : length (w .5 .last .1 .1 .1 .1 .1 .1 .0) ≡ channelCount = w .5 .kept .1 .1 .1 .1 .1 .1 .0 ∙ row-long t in
+    rw (w .8, w .9, w .10)
+    (next i on (turned _ _ _ (i .low) refl (within n) e) (w .2 .ensures) (is n) (right-kept _ _ (s n .pre .walk .accepted) _ (is n) (moves t) (w .2 .ensures) (w .5 .ensures))))
+    (λ w.
+    rw (w .1, w .2, w .3)
+    (next i on (unturned _) (i .held) (is n) (right-down _ _ (s n .pre .walk .accepted) _ (is n) (sym (c .before .may-move .ensures) ∙ w .0 .left) (i .planned .down .at _ (omega arith)))))
+    (c .if1 .came)
 
 same-length : tie.Need-same-length Inv-loop μ-loop
-same-length c = c .before .loop .inv .2
+same-length c = c .before .loop .inv .long
 
 returns : tie.Need-returns Inv-loop μ-loop
 returns c =
-    let s = c .before .before .before .before in
     let l = c .before .loop in
-    let e : l .c ≡ suc (s .args .last) = omega arith in
-    simp (toZ-ofZ (s .fits .lat), toZ-ofZ (s .fits .lon), e) at (l .inv .4)
+    let s = c .before .before .before .before in
+    let e : l .c ≡ suc (s .args .channels .last) = omega (arith, l .inv .high, c .loop-test .left) in
+    rw e at (l .inv .planned)
 
 pub plan-spec : {M : Type 1} → statement M
 plan-spec =
@@ -77,7 +179,15 @@ plan-spec =
     sub-k
     mul-mark
     element-copy-out-mark
-    turn-requires
+    may-move-requires
+    survey-from-requires
+    sub-a
+    mul-a
+    add-b
+    sub-flag-moves
+    part-flag-moves-start
+    part-flag-moves-end
+    flag-moves-requires
     add-c
     loop-less
     loop-again

@@ -1,5 +1,6 @@
 -- `programs::change` meets its contract. Assumes nothing.
 use Rattle.telling.proofs.Rooms.{within}
+use Rattle.stations.specs.Version.{limit}
 use borrow.Author.Needs.{needs}
 use Rattle.programs.proofs.change.Statement.{statement}
 use Rattle.programs.proofs.change.Tie as tie
@@ -29,9 +30,11 @@ slice-aggregate-tell-change : tie.Need-slice-aggregate-tell-change
 slice-aggregate-tell-change c = search needs
 
 tell-change-requires : tie.Need-tell-change-requires
-tell-change-requires c κs = (search needs, within 32008 (search needs) (c .before .before .asked-change .ensures))
+unfolding limit
+tell-change-requires c κs = (search needs, within _ (search needs) (c .before .before .asked-change .ensures))
 
 returns : tie.Need-returns
+unfolding limit
 returns c = search needs
 
 pub change-spec : {M : Type 1} → statement M

@@ -1,5 +1,6 @@
 -- `programs::check` meets its contract. Assumes nothing.
 use Rattle.telling.proofs.Rooms.{within}
+use Rattle.stations.specs.Version.{limit}
 use borrow.Author.Needs.{needs}
 use Rattle.programs.proofs.check.Statement.{statement}
 use Rattle.programs.proofs.check.Tie as tie
@@ -35,9 +36,11 @@ slice-aggregate-tell-check-2 : tie.Need-slice-aggregate-tell-check-2
 slice-aggregate-tell-check-2 c = search needs
 
 tell-check-requires : tie.Need-tell-check-requires
-tell-check-requires c κs = (search needs, (search needs, within 6000 (search needs) (c .before .before .before .before .asked-check .ensures)))
+unfolding limit
+tell-check-requires c κs = (search needs, (search needs, within _ (search needs) (c .before .before .before .before .asked-check .ensures)))
 
 returns : tie.Need-returns
+unfolding limit
 returns c = search needs
 
 pub check-spec : {M : Type 1} → statement M

@@ -1,36 +1,67 @@
 -- `spacing::is_short` meets its contract. Assumes nothing.
-use mathlib.Core.Path.{sym, _∙_}
+use mathlib.Core.Path.{_≡_, sym, _∙_}
 use Prim.Native.Nat.{_<_}
 use native.Mathlib.Omega.{arith}
+use lib.Dec.{ltb}
 use mir.Facts.{toZ-ofZ}
 use borrow.Author.Needs.{needs}
 use Rattle.part73.proofs.Facts.{table-a}
 use Rattle.spacing.specs.Pair.{columnFor}
+use Rattle.spacing.proofs.Places.{lat-fits, lon-fits}
 use Rattle.spacing.proofs.Rule.{for-most, no-column, at-limit}
 use Rattle.spacing.proofs.is_short.Statement.{statement}
 use Rattle.spacing.proofs.is_short.Tie as tie
 
-some : (c : tie.Else1) → let s = c .before .before in columnFor (s .args .channel) (s .args .c) < 4
-some c = for-most _ _ (λ q. c .if1 .left (c .before .column-for .ensures ∙ q))
+-- a column applies
+some : (c : tie.Else2) → let s = c .before .before .before .before in columnFor (s .args .x) (s .args .y) < 4
+some c = for-most _ _ (λ q. c .if2 .left (c .before .column-for .ensures ∙ q))
+
+apart-requires : tie.Need-apart-requires
+apart-requires c κs = search needs
+
+returns : tie.Need-returns
+returns c = sym (c .before .apart .ensures .tells (c .if1 .taken) _ _)
 
 column-for-requires : tie.Need-column-for-requires
 column-for-requires c κs = search needs
 
-returns : tie.Need-returns
-returns c = let s = c .before .before in no-column table-a (s .pre .1 .0) (s .pre .1 .1) _ _ (sym (c .before .column-for .ensures) ∙ c .if1 .taken)
-
-short-in-column-requires : tie.Need-short-in-column-requires
-short-in-column-requires c κs =
-    let s = c .before .before in
-    simp (toZ-ofZ (s .fits .lat), toZ-ofZ (s .fits .lon), toZ-ofZ (s .fits .lat2), toZ-ofZ (s .fits .lon2))
-    (omega (arith, c .before .column-for .ensures, some c), s .pre)
-
 returns-2 : tie.Need-returns-2
 returns-2 c =
-    let e = c .before in
-    let s = e .before .before in
-    (simp (toZ-ofZ (s .fits .lat), toZ-ofZ (s .fits .lon), toZ-ofZ (s .fits .lat2), toZ-ofZ (s .fits .lon2), e .before .column-for .ensures) at (c .short-in-column .ensures))
-    ∙ at-limit table-a (s .pre .1 .0) (s .pre .1 .1) (s .args .channel) (s .args .c) (some e)
+    let s = c .before .before .before .before in
+    sym (no-column table-a _ _ (s .pre .1 .0) (s .pre .1 .1) _ _ (sym (c .before .column-for .ensures) ∙ c .if2 .taken))
+
+squared-requires : tie.Need-squared-requires
+squared-requires c κs =
+    let s = c .before .before .before .before .before .before .before .before in
+    let mine = s .pre .1 .0 in
+    let their = s .pre .1 .1 in
+    simp (toZ-ofZ (lat-fits mine), toZ-ofZ (lon-fits mine), toZ-ofZ (lat-fits their), toZ-ofZ (lon-fits their)) (mine .placed, their .placed)
+
+square-in-requires : tie.Need-square-in-requires
+square-in-requires c κs =
+    let e = c .before .before .before .before .before in
+    let s = e .before .before .before .before in
+    (s .pre .1 .1 .known, omega (arith, e .before .column-for .ensures, some e))
+
+returns-3 : tie.Need-returns-3
+returns-3 c =
+    let q = c .before in
+    let e = q .before .before .before .before .before in
+    let s = e .before .before .before .before in
+    let mine = s .pre .1 .0 in
+    let their = s .pre .1 .1 in
+    let square = simp (toZ-ofZ (lat-fits mine), toZ-ofZ (lon-fits mine), toZ-ofZ (lat-fits their), toZ-ofZ (lon-fits their)) at (q .squared .ensures) in
+    let limit = (rw (e .before .column-for .ensures) at (c .square-in .ensures)) ∙ s .pre .0 .square _ _ (their .known) (some e) in
+    (λ i. ltb (square i) (limit i)) ∙ at-limit table-a _ _ mine their (s .args .x) (s .args .y) (some e)
 
 pub is-short-spec : {M : Type 1} → statement M
-is-short-spec = tie.close (tie.spec column-for-requires returns short-in-column-requires returns-2)
+is-short-spec =
+    tie.close
+    (tie.spec
+    apart-requires
+    returns
+    column-for-requires
+    returns-2
+    squared-requires
+    square-in-requires
+    returns-3)

@@ -1,88 +1,132 @@
 -- `survey::look_at` meets its contract. Assumes nothing.
-use mathlib.Core.Path.{_≡_, _∙_, ap}
-use Prim.Native.Nat.{_/_}
+use mathlib.Core.Path.{_≡_, sym, ap, _∙_}
 use native.Mathlib.Omega.{arith}
 use denote.Ref.{now}
 use mir.Facts.{toZ-ofZ}
 use borrow.Author.Needs.{needs}
-use Rattle.spacing.specs.Pair.{assignment}
+use Rattle.part73.specs.TableA.{tableA}
+use Rattle.part73.proofs.Facts.{table-a}
+use Rattle.spacing.specs.Pair.{sited}
+use Rattle.spacing.specs.Reaching.{InRange, Reaches}
+use Rattle.spacing.proofs.Places.{lat-fits, lon-fits}
+use Rattle.spacing.proofs.Reaching.{falling, reaches}
 use Rattle.stations.specs.Image.{stationAt}
-use Rattle.stations.specs.declared.Station.{Station}
-use Rattle.stations.proofs.Scanning.{record-at}
-use Rattle.survey.proofs.Records.{Known, known-at, room-at, few, lat-fits, lon-fits}
+use Rattle.survey.specs.Ways.{placeOf}
+use Rattle.survey.proofs.Records.{Known, known-at, room-at, few}
 use Rattle.survey.proofs.Marks.{struck-none, struck-as, struck-part}
-use Rattle.survey.proofs.Shorts.{untouched-at, blocks-every}
+use Rattle.survey.proofs.Shorts.{hit-at, untouched-at, blocks-every}
 use Rattle.survey.proofs.look_at.Statement.{statement}
 use Rattle.survey.proofs.look_at.Tie as tie
 
-known : (s : tie.Start) → Known (stationAt (s .args .table .now) (s .args .at / 16))
-known s = known-at _ _ (s .pre .0) (s .args .at / 16) (s .pre .1 .0 .1)
+known : (s : tie.Start) → Known (stationAt (now (s .args .table)) (s .args .i))
+known s = known-at _ (s .pre .0 .walk .accepted) (s .args .i) (s .pre .1)
 
--- the channel, and the record, are those of the position
-channel : (c : tie.After-channel-from) → let s = c .before .before in c .channel-from .result ≡ stationAt (s .args .table .now) (s .args .at / 16) .channel
-channel c = c .channel-from .ensures ∙ ap (λ (r : Station). r .channel) (record-at _ _ (c .before .before .pre .1 .0 .0))
+theirs : (c : tie.After-place-of) → let s = c .before .before .before .before .before .before in c .place-of .result ≡ placeOf (stationAt (now (s .args .table)) (s .args .i))
+theirs c = c .place-of .ensures ∙ ap placeOf (c .before .before .before .before .station-at .ensures)
 
-station : (c : tie.After-record-from) → let s = c .before .before .before .before .before in c .record-from .result ≡ stationAt (s .args .table .now) (s .args .at / 16)
-station c = c .record-from .ensures ∙ record-at _ _ (c .before .before .before .before .before .pre .1 .0 .0)
+-- their class and site are in range
+there : (c : tie.After-place-of) → InRange (c .place-of .result)
+there c = rw (theirs c) (known (c .before .before .before .before .before .before) .placed)
 
-channel-from-requires : tie.Need-channel-from-requires
-channel-from-requires c κs = let s = c .before in omega (arith, room-at _ _ (s .pre .0) _ (s .pre .1 .0 .1), s .pre .1 .0 .0)
+station-at-requires : tie.Need-station-at-requires
+station-at-requires c κs = let s = c .before in room-at _ (s .pre .0 .walk .accepted) (s .args .i) (s .pre .1)
 
 cast-c : tie.Need-cast-c
 cast-c c = search needs
 
-element-copy-out-if1 : tie.Need-element-copy-out-if1
-element-copy-out-if1 c = search needs
+touches-requires : tie.Need-touches-requires
+touches-requires c κs =
+    let r = c .before in
+    let s = r .before .before in
+    let k = known s in
+    rw (r .station-at .ensures) (k .low, (k .high, s .pre .0 .asked .high))
 
-record-from-requires : tie.Need-record-from-requires
-record-from-requires c κs = let s = c .before .before .before .before in omega (arith, room-at _ _ (s .pre .0) _ (s .pre .1 .0 .1), s .pre .1 .0 .0)
+place-of-requires : tie.Need-place-of-requires
+place-of-requires c κs = search needs
 
-cast-theirs : tie.Need-cast-theirs
-cast-theirs c = search needs
+apart-requires : tie.Need-apart-requires
+apart-requires c κs =
+    let s = c .before .before .before .before .before .before in
+    (s .pre .0 .walk .held, (s .pre .0 .walk .placed, there c))
+
+-- it is too far away
+returns : tie.Need-returns
+returns c =
+    let p = c .before .before in
+    let s = p .before .before .before .before .before .before in
+    let w = rw (theirs p) at (c .before .apart .ensures) in
+    struck-as (λ m lo hi. sym (w .tells (c .if2 .taken) m _) ∙ blocks-every (now (s .args .table)) (sited (s .args .place) m) (s .args .i))
+    (struck-none _ _ _ _ (s .pre .0 .long))
+
+squared-requires : tie.Need-squared-requires
+squared-requires c κs =
+    let p = c .before .before .before .before .before .before in
+    let mine = p .before .before .before .before .before .before .pre .0 .walk .placed in
+    simp (toZ-ofZ (lat-fits mine), toZ-ofZ (lon-fits mine), toZ-ofZ (lat-fits (there p)), toZ-ofZ (lon-fits (there p))) (mine .placed, there p .placed)
+
+reach-at-requires : tie.Need-reach-at-requires
+reach-at-requires c κs =
+    let p = c .before .before .before .before .before .before .before in
+    let w = p .before .before .before .before .before .before .pre .0 .walk in
+    (there p .known, falling table-a (w .held) (w .placed) (there p))
+
+-- how far the two reach
+reached : (c : tie.After-reach-at) → let p = c .before .before .before .before .before .before .before .before in let s = p .before .before .before .before .before .before in Reaches tableA (s .args .place) (p .place-of .result) (c .reach-at .result)
+reached c =
+    let q = c .before in
+    let p = q .before .before .before .before .before .before .before in
+    let w = p .before .before .before .before .before .before .pre .0 .walk in
+    let square = simp (toZ-ofZ (lat-fits (w .placed)), toZ-ofZ (lon-fits (w .placed)), toZ-ofZ (lat-fits (there p)), toZ-ofZ (lon-fits (there p))) at (q .squared .ensures) in
+    reaches table-a (w .held) (w .placed) (there p) (rw square at (c .reach-at .ensures))
 
 cast-who : tie.Need-cast-who
 cast-who c =
-    let s = c .before .before .before .before .before .before .before .before in
-    omega (arith, few _ _ (s .pre .0), s .pre .1 .0 .1)
+    let p = c .before .before .before .before .before .before .before .before in
+    let s = p .before .before .before .before .before .before in
+    omega (arith, few _ (s .pre .0 .walk .accepted), s .pre .1)
 
 strike-requires : tie.Need-strike-requires
 strike-requires c κs =
-    let r = c .before .before .before .before in
-    let s = r .before .before .before .before .before in
+    let t = c .before in
+    let r = t .before .before .before .before .before .before .before .before .before .before .before .before in
+    let s = r .before .before in
     let k = known s in
-    simp (toZ-ofZ (s .fits .lat), toZ-ofZ (s .fits .lon), station r, toZ-ofZ (lat-fits (k .sound)), toZ-ofZ (lon-fits (k .sound)), channel (r .before .before .before))
-    (s .pre .1 .1 .0, (s .pre .1 .1 .1 .0, (k .sound, (s .pre .1 .1 .1 .1 .0, (omega (arith, few _ _ (s .pre .0), s .pre .1 .0 .1), (k .low, k .high))))))
-
-returns : tie.Need-returns
-returns c =
-    let r = c .before .before .before .before .before in
-    let s = r .before .before .before .before .before in
-    let k = known s in
-    struck-part (s .pre .1 .1 .1 .1 .1 .0) (s .pre .1 .1 .1 .1 .1 .1 .0)
-    (struck-as (λ m lo hi. blocks-every (now (s .args .table)) (assignment m (s .args .class) (s .args .lat) (s .args .lon)) (s .args .at / 16))
-    (simp (toZ-ofZ (s .fits .lat), toZ-ofZ (s .fits .lon), station r, toZ-ofZ (lat-fits (k .sound)), toZ-ofZ (lon-fits (k .sound)), channel (r .before .before .before)) at (c .strike .ensures)))
+    rw (r .station-at .ensures) (s .pre .0 .long, (omega (arith, few _ (s .pre .0 .walk .accepted), s .pre .1), (k .low, (k .high, reached t .most))))
 
 returns-2 : tie.Need-returns-2
 returns-2 c =
-    let r = c .before .before in
+    let t = c .before .before in
+    let p = t .before .before .before .before .before .before .before .before in
+    let r = p .before .before .before .before in
     let s = r .before .before in
-    let k = known s in
-    let far = s .pre .1 .1 .1 .1 .1 .1 .1 .at _ (k .low) (k .high) .none-of (rw (channel r) at (c .if1 .left)) in
+    let w = rw (theirs p) at (reached t) in
+    struck-part (s .pre .0 .asked .low) (s .pre .0 .asked .high)
+    (struck-as (λ m lo hi. hit-at w m _ lo ∙ blocks-every (now (s .args .table)) (sited (s .args .place) m) (s .args .i))
+    (rw (r .station-at .ensures) at (c .strike .ensures)))
+
+returns-3 : tie.Need-returns-3
+returns-3 c =
+    let r = c .before .before .before in
+    let s = r .before .before in
+    let far = rw (r .station-at .ensures) at (c .before .touches .ensures .none-of (c .if1 .left)) in
     struck-as (λ m lo hi.
-    untouched-at (s .pre .1 .1 .1 .0) (k .sound) m _ (omega (arith, s .pre .1 .1 .1 .1 .1 .0)) (far m lo hi)
-    ∙ blocks-every (now (s .args .table)) (assignment m (s .args .class) (s .args .lat) (s .args .lon)) (s .args .at / 16))
-    (struck-none _ _ _ _ (s .pre .1 .1 .1 .1 .0))
+    untouched-at (s .pre .0 .walk .placed) (known s .placed) m _ (omega (arith, s .pre .0 .asked .low)) (far m lo hi)
+    ∙ blocks-every (now (s .args .table)) (sited (s .args .place) m) (s .args .i))
+    (struck-none _ _ _ _ (s .pre .0 .long))
 
 pub look-at-spec : {M : Type 1} → statement M
 look-at-spec =
     tie.close
     (tie.spec
-    channel-from-requires
+    station-at-requires
     cast-c
-    element-copy-out-if1
-    record-from-requires
-    cast-theirs
+    touches-requires
+    place-of-requires
+    apart-requires
+    returns
+    squared-requires
+    reach-at-requires
     cast-who
     strike-requires
-    returns
-    returns-2)
+    returns-2
+    returns-3)

@@ -1,36 +1,37 @@
 -- `survey::short_at` meets its contract. Assumes nothing.
-use mir.Facts.{toZ-ofZ}
+use mathlib.Core.Path.{_≡_, ap, _∙_}
+use denote.Ref.{now}
 use borrow.Author.Needs.{needs}
-use Rattle.survey.proofs.Records.{Known, known-at, room-at, lat-fits, lon-fits}
+use Rattle.spacing.specs.declared.Place.{Place}
+use Rattle.stations.specs.Image.{stationAt}
+use Rattle.survey.specs.Ways.{placeOf}
+use Rattle.survey.proofs.Records.{known-at, room-at}
 use Rattle.survey.proofs.short_at.Statement.{statement}
 use Rattle.survey.proofs.short_at.Tie as tie
 
-known : (c : tie.After-station-at) → Known (c .station-at .result)
-known c = let s = c .before .before in rw (c .station-at .ensures) (known-at _ _ (s .pre .0) (s .args .i) (s .pre .1 .0))
+theirs : (c : tie.After-place-of) → let s = c .before .before .before .before in c .place-of .result ≡ placeOf (stationAt (now (s .args .table)) (s .args .i))
+theirs c = c .place-of .ensures ∙ ap placeOf (c .before .before .station-at .ensures)
 
 station-at-requires : tie.Need-station-at-requires
-station-at-requires c κs = room-at _ _ (c .before .pre .0) (c .before .args .i) (c .before .pre .1 .0)
+station-at-requires c κs = let s = c .before in room-at _ (s .pre .0 .accepted) (s .args .i) (s .pre .1)
 
 cast-c : tie.Need-cast-c
 cast-c c = search needs
 
-cast-theirs : tie.Need-cast-theirs
-cast-theirs c = search needs
+place-of-requires : tie.Need-place-of-requires
+place-of-requires c κs = search needs
 
 is-short-requires : tie.Need-is-short-requires
 is-short-requires c κs =
-    let r = c .before .before .before .before in
-    let s = r .before .before in
-    let k = known r in
-    simp (toZ-ofZ (s .fits .lat), toZ-ofZ (s .fits .lon), toZ-ofZ (lat-fits (k .sound)), toZ-ofZ (lon-fits (k .sound)))
-    (s .pre .1 .1 .0, (s .pre .1 .1 .1, k .sound))
+    let s = c .before .before .before .before in
+    (s .pre .0 .held, (s .pre .0 .placed, rw (theirs c) (known-at _ (s .pre .0 .accepted) (s .args .i) (s .pre .1) .placed)))
 
 returns : tie.Need-returns
 returns c =
-    let r = c .before .before .before .before .before in
-    let s = r .before .before in
-    let k = known-at _ _ (s .pre .0) (s .args .i) (s .pre .1 .0) in
-    simp (toZ-ofZ (s .fits .lat), toZ-ofZ (s .fits .lon), toZ-ofZ (lat-fits (k .sound)), toZ-ofZ (lon-fits (k .sound)), r .station-at .ensures) at (c .is-short .ensures)
+    let t = c .before in
+    simp (theirs t, t .before .before .station-at .ensures) at (c .is-short .ensures)
 
 pub short-at-spec : {M : Type 1} → statement M
-short-at-spec = tie.close (tie.spec station-at-requires cast-c cast-theirs is-short-requires returns)
+short-at-spec =
+    tie.close
+    (tie.spec station-at-requires cast-c place-of-requires is-short-requires returns)

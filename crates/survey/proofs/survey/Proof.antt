@@ -1,74 +1,95 @@
 -- `survey::survey` meets its contract. Assumes nothing.
-use mathlib.Core.Path.{_≡_, refl}
-use Prim.Native.Nat.{_+_, _-_, _*_, _/_, _≤_, _<_}
+use mathlib.Core.Path.{_≡_}
+use Prim.Native.Nat.{_-_, _≤_, _<_}
 use native.Mathlib.Omega.{arith}
-use mir.Syntax.{w32}
-use mir.Val.{toZ}
-use mir.Facts.{toZ-ofZ}
-use Rattle.spacing.specs.Pair.{assignment}
-use Rattle.survey.specs.Ways.{everyRecord, blocks}
-use Rattle.survey.specs.Marks.{Marked}
-use Rattle.stations.proofs.Table.{whole}
-use Rattle.survey.proofs.Records.{few}
+use denote.Ref.{now}
+use Rattle.part73.specs.TableA.{tableA}
+use Rattle.spacing.specs.Pair.{sited}
+use Rattle.stations.specs.Image.{count}
+use Rattle.survey.specs.Ways.{everyRecord}
+use Rattle.survey.specs.Marks.{blocks, Marked}
+use Rattle.survey.proofs.Records.{few, header-room}
 use Rattle.survey.proofs.Marks.{marked-start, marked-turn}
+use Rattle.survey.proofs.Boxes.{marked-on}
 use Rattle.survey.proofs.survey.Statement.{statement}
 use Rattle.survey.proofs.survey.Tie as tie
 
 abbrev Inv-loop : tie.InvT-loop
-Inv-loop table n class near lat lon first last marks₀ touched end at₀ marks at =
-    (at ≡ 8 + 16 * (at / 16)) × (at / 16 ≤ n) × Marked (λ m j. blocks everyRecord table (assignment m class (toZ w32 lat) (toZ w32 lon)) j) first last (at / 16) marks
+Inv-loop table place limits channels marks₀ n stop around from₀ marks from = (from ≤ count table) × Marked (λ m j. blocks tableA everyRecord table (sited place m) j) (channels .first) (channels .last) from marks
 
 abbrev μ-loop : tie.MeasureT-loop
-μ-loop table n class near lat lon first last marks₀ touched end at₀ marks at = 8 + 16 * n - at
+μ-loop table place limits channels marks₀ n stop around from₀ marks from = n - from
 
 wipe-requires : tie.Need-wipe-requires Inv-loop μ-loop
-wipe-requires c κs = c .before .before .pre .1 .1 .1 .0
+wipe-requires c κs = c .before .before .pre .long
 
-touching-requires : tie.Need-touching-requires Inv-loop μ-loop
-touching-requires c κs = c .before .before .before .pre .1 .1 .1 .1 .1
+count-of-requires : tie.Need-count-of-requires Inv-loop μ-loop
+count-of-requires c κs = header-room _ (c .before .before .before .pre .walk .accepted)
+
+turns-end-requires : tie.Need-turns-end-requires Inv-loop μ-loop
+turns-end-requires c κs = header-room _ (c .before .before .before .before .pre .walk .accepted)
+
+box-around-requires : tie.Need-box-around-requires Inv-loop μ-loop
+box-around-requires c κs = let w = c .before .before .before .before .before .pre .walk in (w .held, w .placed)
 
 loop-holds : tie.Need-loop-holds Inv-loop μ-loop
 loop-holds c =
-    let w = c .before in
+    let w = c .before .before .before in
     let s = w .before .before .before in
-    (refl, omega arith, marked-start _ (s .pre .1 .1 .1 .1 .0) (s .pre .1 .1 .1 .1 .1) (w .wipe .ensures))
+    (omega arith, marked-start _ (s .pre .asked .low) (s .pre .asked .high) (w .wipe .ensures))
 
--- a record is left
-inside : (c : tie.In-loop Inv-loop μ-loop) → c .before .loop .at / 16 < c .before .before .before .before .before .before .args .n
-inside c =
-    let s = c .before .before .before .before .before .before in
-    omega (arith, whole _ _ (s .pre .0) .long, c .before .loop .inv .0, c .loop-test .taken)
+next-close-requires : tie.Need-next-close-requires Inv-loop μ-loop
+next-close-requires c κs =
+    let l = c .before in
+    let b = l .before in
+    (record { accepted = b .before .before .before .before .before .before .pre .walk .accepted; within = l .loop .inv .0; fair = b .box-around .ensures .fair }, omega arith, omega arith)
 
-look-at-requires : tie.Need-look-at-requires Inv-loop μ-loop
-look-at-requires c κs =
-    let l = c .before .before .before in
-    let t = l .before in
-    let s = t .before .before .before .before in
-    (s .pre .0, ((l .loop .inv .0, inside (c .before .before)), (simp (toZ-ofZ (s .fits .lat)) (s .pre .1 .0), (simp (toZ-ofZ (s .fits .lat), toZ-ofZ (s .fits .lon)) (s .pre .1 .1 .0), (l .loop .inv .2 .long, (s .pre .1 .1 .1 .1 .0, (s .pre .1 .1 .1 .1 .1, t .touching .ensures)))))))
-
-add-at : tie.Need-add-at Inv-loop μ-loop
-add-at c =
-    let i = c .before .before .before in
-    let l = i .before .loop in
-    let s = i .before .before .before .before .before .before in
-    omega (arith, l .inv .0, l .inv .1, few _ _ (s .pre .0))
-
-loop-less : tie.Need-loop-less Inv-loop μ-loop
-loop-less c = let i = c .before .before .before in omega (arith, i .before .loop .inv .0, inside i)
-
-loop-again : tie.Need-loop-again Inv-loop μ-loop
-loop-again c =
-    let i = c .before .before .before in
-    let l = i .before .loop in
-    let k : (l .at + 16) / 16 ≡ l .at / 16 + 1 = omega arith in
-    (omega (arith, l .inv .0), omega (arith, inside i), rw k (marked-turn (l .inv .2) (c .look-at .ensures)))
+-- the marks up to the next record that is close
+on : (c : tie.After-next-close Inv-loop μ-loop) → let l = c .before .before in let s = l .before .before .before .before .before .before .before in Marked (λ m j. blocks tableA everyRecord (now (s .args .table)) (sited (s .args .place) m) j) (s .args .channels .first) (s .args .channels .last) (c .next-close .result) (l .loop .marks)
+on c =
+    let l = c .before .before in
+    let b = l .before in
+    marked-on _ (b .before .before .before .before .before .before .pre .walk .accepted) (b .box-around .ensures) (c .next-close .ensures) (l .loop .inv .1)
 
 returns : tie.Need-returns Inv-loop μ-loop
 returns c =
-    let s = c .before .before .before .before .before .before in
-    let l = c .before .loop in
-    let e : l .at / 16 ≡ s .args .n = omega (arith, whole _ _ (s .pre .0) .long, l .inv .0, l .inv .1, c .loop-test .left) in
-    simp (toZ-ofZ (s .fits .lat), toZ-ofZ (s .fits .lon), e) at (l .inv .2)
+    let k = c .before in
+    let n = k .before .before .before .before .before in
+    let s = n .before .before .before .before in
+    let e : k .next-close .result ≡ count (now (s .args .table)) = omega (arith, n .count-of .ensures, k .next-close .ensures .upto, c .if1 .taken) in
+    rw e at (on k)
+
+within : (c : tie.Else1 Inv-loop μ-loop) → let s = c .before .before .before .before .before .before .before .before .before .before in c .before .next-close .result < count (now (s .args .table))
+within c = let n = c .before .before .before .before .before .before in omega (arith, n .count-of .ensures, c .if1 .left)
+
+look-at-requires : tie.Need-look-at-requires Inv-loop μ-loop
+look-at-requires c κs =
+    let e = c .before in
+    let s = e .before .before .before .before .before .before .before .before .before .before in
+    (record { walk = s .pre .walk; asked = s .pre .asked; long = e .before .before .before .loop .inv .1 .long }, within e)
+
+add-from : tie.Need-add-from Inv-loop μ-loop
+add-from c =
+    let e = c .before .before in
+    let s = e .before .before .before .before .before .before .before .before .before .before in
+    omega (arith, few _ (s .pre .walk .accepted), within e)
+
+loop-less : tie.Need-loop-less Inv-loop μ-loop
+loop-less c =
+    let e = c .before .before in
+    let k = e .before in
+    omega (arith, k .next-close .ensures .on, k .before .loop-test .taken, e .if1 .left)
+
+loop-again : tie.Need-loop-again Inv-loop μ-loop
+loop-again c = let e = c .before .before in (omega (arith, within e), marked-turn (on (e .before)) (c .look-at .ensures))
+
+returns-2 : tie.Need-returns-2 Inv-loop μ-loop
+returns-2 c =
+    let l = c .before in
+    let n = l .before .before .before in
+    let s = n .before .before .before .before in
+    let e : l .loop .from ≡ count (now (s .args .table)) = omega (arith, n .count-of .ensures, l .loop .inv .0, c .loop-test .left) in
+    rw e at (l .loop .inv .1)
 
 pub survey-spec : {M : Type 1} → statement M
 survey-spec =
@@ -77,10 +98,14 @@ survey-spec =
     Inv-loop
     μ-loop
     wipe-requires
-    touching-requires
+    count-of-requires
+    turns-end-requires
+    box-around-requires
     loop-holds
+    next-close-requires
+    returns
     look-at-requires
-    add-at
+    add-from
     loop-less
     loop-again
-    returns)
+    returns-2)

@@ -11,8 +11,8 @@ enum-known-answer c = search needs
 cast-last : tie.Need-cast-last
 cast-last c = search needs
 
-put-rows-requires : tie.Need-put-rows-requires
-put-rows-requires c κs =
+put-lines-requires : tie.Need-put-lines-requires
+put-lines-requires c κs =
     let k = granted _ _ _ (c .before .before .before .before .before .before .pre .1 .1) (c .before .before .answer .given .1) in
     (omega arith, (omega arith, omega arith))
 
@@ -42,7 +42,7 @@ put-answer-spec =
     (tie.spec
     enum-known-answer
     cast-last
-    put-rows-requires
+    put-lines-requires
     enum-known-answer-2
     put-refusal-requires
     same-length

@@ -2,6 +2,7 @@
 use native.Mathlib.Omega.{arith}
 use Rattle.telling.proofs.Rooms.{granted}
 use borrow.Author.Needs.{needs}
+use Rattle.stations.specs.Version.{limit}
 use Rattle.telling.proofs.tell_change.Statement.{statement}
 use Rattle.telling.proofs.tell_change.Tie as tie
 
@@ -21,6 +22,7 @@ enum-known-answer-2 : tie.Need-enum-known-answer-2
 enum-known-answer-2 c = search needs
 
 tell-refusal-requires : tie.Need-tell-refusal-requires
+unfolding limit
 tell-refusal-requires c κs = search needs
 
 same-length : tie.Need-same-length

@@ -12,11 +12,11 @@ Inv-loop text₀ rows count at₀ from₀ text at from = (from ≤ count) × (le
 abbrev μ-loop : tie.MeasureT-loop
 μ-loop text₀ rows count at₀ from₀ text at from = count - from
 
-cast-put-short : tie.Need-cast-put-short Inv-loop μ-loop
-cast-put-short c = search needs
+cast-put-heading : tie.Need-cast-put-heading Inv-loop μ-loop
+cast-put-heading c = search needs
 
-put-short-requires : tie.Need-put-short-requires Inv-loop μ-loop
-put-short-requires c κs = search needs
+put-heading-requires : tie.Need-put-heading-requires Inv-loop μ-loop
+put-heading-requires c κs = search needs
 
 loop-holds : tie.Need-loop-holds Inv-loop μ-loop
 loop-holds c = search needs
@@ -36,8 +36,8 @@ returns c = search needs
 batch-end-requires : tie.Need-batch-end-requires Inv-loop μ-loop
 batch-end-requires c κs = search needs
 
-put-rows-requires : tie.Need-put-rows-requires Inv-loop μ-loop
-put-rows-requires c κs = search needs
+put-lines-requires : tie.Need-put-lines-requires Inv-loop μ-loop
+put-lines-requires c κs = search needs
 
 loop-less : tie.Need-loop-less Inv-loop μ-loop
 loop-less c = search needs
@@ -60,15 +60,15 @@ tell-short-spec =
     (tie.spec
     Inv-loop
     μ-loop
-    cast-put-short
-    put-short-requires
+    cast-put-heading
+    put-heading-requires
     loop-holds
     mul-room
     room-requires
     same-length
     returns
     batch-end-requires
-    put-rows-requires
+    put-lines-requires
     loop-less
     loop-again
     write-requires

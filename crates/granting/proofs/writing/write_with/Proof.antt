@@ -53,11 +53,11 @@ returns c =
     let front = headerOf (s .args .version) (s .args .n) ++ take (16 * s .args .p) (drop 8 table) in
     let middle = c .before .before .before .before .before .before .begin .last .1 .1 .1 .1 .0 in
     let same : length middle ≡ length (s .args .image .now) = ap length (c .before .before .before .before .before .before .begin .ensures) ∙ simp length-sets in
-    let room : at + length rest ≤ length middle = simp (length-append, length-record, length-drop) (omega (arith, s .pre .1 .1)) in
+    let room : at + length rest ≤ length middle = simp (length-append, length-record, length-drop) (omega (arith, s .pre .enough)) in
     ap (putMid at (length middle - at) middle) (c .before .before .go-on .ensures)
     ∙ part-sets middle rest at room
     ∙ ap (λ (l : List ℕ). sets l at rest) (c .before .before .before .before .before .before .begin .ensures)
-    ∙ sets-both front rest (s .args .image .now) 0 at (omega (arith, length-front table (s .args .p) (s .args .version) (s .args .n) (s .pre .0)))
+    ∙ sets-both front rest (s .args .image .now) 0 at (omega (arith, length-front table (s .args .p) (s .args .version) (s .args .n) (s .pre .front)))
 
 pub write-with-spec : {M : Type 1} → statement M
 write-with-spec =

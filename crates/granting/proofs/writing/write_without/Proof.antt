@@ -46,7 +46,7 @@ returns c =
     c .before .before .copy .ensures
     ∙ ap (sets _ (8 + 16 * s .args .p)) (take-all (length table - from) tail few)
     ∙ ap (λ (l : List ℕ). sets l (8 + 16 * s .args .p) tail) (c .before .before .before .before .before .before .begin .ensures)
-    ∙ sets-both front tail (s .args .image .now) 0 (8 + 16 * s .args .p) (omega (arith, length-front table (s .args .p) (s .args .version) (s .args .n) (s .pre .0)))
+    ∙ sets-both front tail (s .args .image .now) 0 (8 + 16 * s .args .p) (omega (arith, length-front table (s .args .p) (s .args .version) (s .args .n) (s .pre .front)))
 
 pub write-without-spec : {M : Type 1} → statement M
 write-without-spec =

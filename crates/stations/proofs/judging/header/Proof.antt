@@ -5,8 +5,8 @@ use borrow.Author.Needs.{needs}
 use Rattle.stations.proofs.judging.header.Statement.{statement}
 use Rattle.stations.proofs.judging.header.Tie as tie
 
-refused-requires : tie.Need-refused-requires
-refused-requires c κs = search needs
+wrong-requires : tie.Need-wrong-requires
+wrong-requires c κs = search needs
 
 returns : tie.Need-returns
 unfolding headed
@@ -18,8 +18,8 @@ shared-slice-read-if2 c = search needs
 array-read-if2 : tie.Need-array-read-if2
 array-read-if2 c = search needs
 
-refused-requires-2 : tie.Need-refused-requires-2
-refused-requires-2 c κs = search needs
+wrong-requires-2 : tie.Need-wrong-requires-2
+wrong-requires-2 c κs = search needs
 
 returns-2 : tie.Need-returns-2
 unfolding headed
@@ -31,8 +31,8 @@ shared-slice-read-if3 c = search needs
 array-read-if3 : tie.Need-array-read-if3
 array-read-if3 c = search needs
 
-refused-requires-3 : tie.Need-refused-requires-3
-refused-requires-3 c κs = search needs
+wrong-requires-3 : tie.Need-wrong-requires-3
+wrong-requires-3 c κs = search needs
 
 returns-3 : tie.Need-returns-3
 unfolding headed
@@ -44,8 +44,8 @@ shared-slice-read-if4 c = search needs
 array-read-if4 : tie.Need-array-read-if4
 array-read-if4 c = search needs
 
-refused-requires-4 : tie.Need-refused-requires-4
-refused-requires-4 c κs = search needs
+wrong-requires-4 : tie.Need-wrong-requires-4
+wrong-requires-4 c κs = search needs
 
 returns-4 : tie.Need-returns-4
 unfolding headed
@@ -62,19 +62,19 @@ pub header-spec : {M : Type 1} → statement M
 header-spec =
     tie.close
     (tie.spec
-    refused-requires
+    wrong-requires
     returns
     shared-slice-read-if2
     array-read-if2
-    refused-requires-2
+    wrong-requires-2
     returns-2
     shared-slice-read-if3
     array-read-if3
-    refused-requires-3
+    wrong-requires-3
     returns-3
     shared-slice-read-if4
     array-read-if4
-    refused-requires-4
+    wrong-requires-4
     returns-4
     numbers-requires
     returns-5)

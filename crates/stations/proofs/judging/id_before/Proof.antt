@@ -17,14 +17,14 @@ sub-get32 c = search needs
 get32-requires : tie.Need-get32-requires
 get32-requires c κs =
     let p = c .before .before .pre in
-    omega (arith, whole-headed _ _ (p .0) .long, p .1 .placed, p .1 .within, c .if1 .left)
+    omega (arith, whole-headed _ (p .headed) .long, p .placed, p .within, c .if1 .left)
 
 returns-2 : tie.Need-returns-2
 returns-2 c =
     let p = c .before .before .before .pre in
     let at = c .before .before .before .args .at in
     let l = c .before .if1 .left in
-    c .get32 .ensures ∙ id-next _ (at - 16) at (omega (arith, p .1 .placed, l)) (omega (arith, p .1 .placed, l))
+    c .get32 .ensures ∙ id-next _ (at - 16) at (omega (arith, p .placed, l)) (omega (arith, p .placed, l))
 
 pub id-before-spec : {M : Type 1} → statement M
 id-before-spec = tie.close (tie.spec returns sub-get32 get32-requires returns-2)

@@ -22,8 +22,8 @@ cast-n c = search needs
 is-known-requires : tie.Need-is-known-requires
 is-known-requires c κs = search needs
 
-refused-requires : tie.Need-refused-requires
-refused-requires c κs = search needs
+wrong-requires : tie.Need-wrong-requires
+wrong-requires c κs = search needs
 
 returns : tie.Need-returns
 unfolding numbers
@@ -34,8 +34,8 @@ returns c =
 shared-slice-read-if2 : tie.Need-shared-slice-read-if2
 shared-slice-read-if2 c = search needs
 
-refused-requires-2 : tie.Need-refused-requires-2
-refused-requires-2 c κs = search needs
+wrong-requires-2 : tie.Need-wrong-requires-2
+wrong-requires-2 c κs = search needs
 
 returns-2 : tie.Need-returns-2
 unfolding numbers
@@ -46,8 +46,8 @@ returns-2 c =
 is-carried-requires : tie.Need-is-carried-requires
 is-carried-requires c κs = search needs
 
-refused-requires-3 : tie.Need-refused-requires-3
-refused-requires-3 c κs = search needs
+wrong-requires-3 : tie.Need-wrong-requires-3
+wrong-requires-3 c κs = search needs
 
 returns-3 : tie.Need-returns-3
 unfolding numbers
@@ -61,8 +61,8 @@ mul-if4 c = search needs
 add-if4 : tie.Need-add-if4
 add-if4 c = search needs
 
-refused-requires-4 : tie.Need-refused-requires-4
-refused-requires-4 c κs = search needs
+wrong-requires-4 : tie.Need-wrong-requires-4
+wrong-requires-4 c κs = search needs
 
 returns-4 : tie.Need-returns-4
 unfolding numbers
@@ -84,16 +84,16 @@ numbers-spec =
     get16-requires-2
     cast-n
     is-known-requires
-    refused-requires
+    wrong-requires
     returns
     shared-slice-read-if2
-    refused-requires-2
+    wrong-requires-2
     returns-2
     is-carried-requires
-    refused-requires-3
+    wrong-requires-3
     returns-3
     mul-if4
     add-if4
-    refused-requires-4
+    wrong-requires-4
     returns-4
     returns-5)

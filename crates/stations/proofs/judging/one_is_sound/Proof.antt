@@ -9,7 +9,7 @@ use Rattle.stations.proofs.judging.one_is_sound.Tie as tie
 record-from-requires : tie.Need-record-from-requires
 record-from-requires c κs =
     let p = c .before .pre in
-    omega (arith, whole-headed _ _ (p .0) .long, p .1 .1 .placed, p .1 .1 .within)
+    omega (arith, whole-headed _ (p .topped .headed) .long, p .placed, p .within)
 
 verdict-of-requires : tie.Need-verdict-of-requires
 verdict-of-requires c κs = search needs
@@ -26,8 +26,7 @@ enum-told c = search needs
 returns-2 : tie.Need-returns-2
 returns-2 c =
     let v = c .before .before in
-    let p = v .before .before .before .pre in
-    one-passed (whole-headed _ _ (p .0)) _ _ _ _ _ (p .1 .0) (p .1 .1) (v .before .record-from .ensures) (v .verdict-of .ensures) (c .enum-told .given .1)
+    one-passed _ _ _ _ _ (v .before .before .before .pre) (v .before .record-from .ensures) (v .verdict-of .ensures) (c .enum-told .given .1)
 
 pub one-is-sound-spec : {M : Type 1} → statement M
 one-is-sound-spec =

@@ -4,7 +4,7 @@ use Prim.Native.Nat.{ℕ, _+_, _-_, _*_, _/_, _≤_, _<_}
 use native.Mathlib.Omega.{arith}
 use lib.ListN.{drop}
 use borrow.Author.Needs.{needs}
-use Rattle.stations.specs.Image.{stationAt, stations, version, verdict, scan, scanned}
+use Rattle.stations.specs.Image.{stationAt, stations, version, count, verdict, scan, scanned}
 use Rattle.stations.specs.Scanning.{scannedFrom}
 use Rattle.stations.specs.Version.{top as topOf}
 use Rattle.stations.proofs.Table.{Whole, whole-headed, scan-on, scan-stop, scan-end}
@@ -14,11 +14,11 @@ use Rattle.stations.proofs.judging.records.Statement.{statement}
 use Rattle.stations.proofs.judging.records.Tie as tie
 
 abbrev Inv-loop : tie.InvT-loop
-Inv-loop table n version top end at₀ last₀ at last =
-    Whole table n × (at ≡ 8 + 16 * (at / 16)) × (at ≤ 8 + 16 * n) × (scanned table ≡ scan top (at / 16) last (drop (at / 16) (stations table)))
+Inv-loop table version top end at₀ last₀ at last =
+    Whole table (count table) × (at ≡ 8 + 16 * (at / 16)) × (at ≤ 8 + 16 * count table) × (scanned table ≡ scan top (at / 16) last (drop (at / 16) (stations table)))
 
 abbrev μ-loop : tie.MeasureT-loop
-μ-loop table n version top end at₀ last₀ at last = 8 + 16 * n - at
+μ-loop table version top end at₀ last₀ at last = 8 + 16 * count table - at
 
 -- the position of the record at a place
 abbrev position : ℕ → ℕ
@@ -33,11 +33,11 @@ found : (c : tie.After-verdict-of Inv-loop μ-loop) → let l = c .before .befor
 found c = c .verdict-of .ensures ∙ ap (verdict _ _ _) (here (c .before))
 
 -- it lies within the count
-inside : (c : tie.In-loop Inv-loop μ-loop) → position (c .before .loop .at) < c .before .before .before .before .before .before .before .args .n
+inside : (c : tie.In-loop Inv-loop μ-loop) → position (c .before .loop .at) < count (c .before .before .before .before .before .before .before .args .table .now)
 inside c = let l = c .before .loop in omega (arith, l .inv .0 .long, l .inv .1, c .loop-test .taken)
 
 get16-requires : tie.Need-get16-requires Inv-loop μ-loop
-get16-requires c κs = omega (arith, whole-headed _ _ (c .before .pre) .long)
+get16-requires c κs = omega (arith, whole-headed _ (c .before .pre) .long)
 
 top-of-requires : tie.Need-top-of-requires Inv-loop μ-loop
 top-of-requires c κs = search needs
@@ -47,16 +47,16 @@ flags : (c : tie.After-top-of Inv-loop μ-loop) → c .top-of .result ≡ topOf 
 flags c = c .top-of .ensures ∙ ap topOf (c .before .get16 .ensures)
 
 sound-to-requires : tie.Need-sound-to-requires Inv-loop μ-loop
-sound-to-requires c κs = (c .before .before .before .pre, flags c)
+sound-to-requires c κs = record { headed = c .before .before .before .pre; flags = flags c }
 
 id-before-requires : tie.Need-id-before-requires Inv-loop μ-loop
-id-before-requires c κs = (c .before .before .before .before .pre, c .sound-to .ensures)
+id-before-requires c κs = c .sound-to .ensures
 
 loop-holds : tie.Need-loop-holds Inv-loop μ-loop
 unfolding scannedFrom
 loop-holds c =
     let t = c .before .sound-to .ensures in (
-      whole-headed _ _ (c .before .before .before .before .before .pre),
+      whole-headed _ (c .before .before .before .before .before .pre),
       t .placed,
       omega (arith, t .placed, t .within),
       rw (flags (c .before .before), c .id-before .ensures) (t .sound),
@@ -102,10 +102,8 @@ loop-again c =
 returns-2 : tie.Need-returns-2 Inv-loop μ-loop
 returns-2 c =
     let l = c .before .loop in
-    let n = c .before .before .before .before .before .before .before .args .n in
-    let e : position (l .at) ≤ n = omega (arith, l .inv .1, l .inv .2) in
-    let d : n ≤ position (l .at) = omega (arith, l .inv .0 .long, l .inv .1, c .loop-test .left) in
-    sym (l .inv .3 ∙ scan-end (l .inv .0) _ (position (l .at)) (l .last) e d)
+    let d : count (c .before .before .before .before .before .before .before .args .table .now) ≤ position (l .at) = omega (arith, l .inv .0 .long, l .inv .1, c .loop-test .left) in
+    sym (l .inv .3 ∙ scan-end (l .inv .0) _ (position (l .at)) (l .last) d)
 
 pub records-spec : {M : Type 1} → statement M
 records-spec =

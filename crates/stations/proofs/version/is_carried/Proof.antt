@@ -1,11 +1,11 @@
 -- `stations::version::is_carried` meets its contract. Assumes nothing.
 use mathlib.Core.Path.{refl}
-use Rattle.stations.specs.Version.{carries}
+use Rattle.stations.specs.Version.{carries, limit}
 use Rattle.stations.proofs.version.is_carried.Statement.{statement}
 use Rattle.stations.proofs.version.is_carried.Tie as tie
 
 returns : tie.Need-returns
-unfolding carries
+unfolding carries limit
 returns c = refl
 
 pub is-carried-spec : {M : Type 1} → statement M

@@ -51,7 +51,7 @@ loop-again : tie.Need-loop-again Inv-loop μ-loop
 loop-again c =
     let at = c .before .before .loop in
     let s = c .before .before .before in
-    let e = turn (s .args .table .now) (at .image) (s .args .from) (s .args .to) (s .args .count) (at .k) (s .pre .0) (c .before .loop-test .taken) in
+    let e = turn (s .args .table .now) (at .image) (s .args .from) (s .args .to) (s .args .count) (at .k) (s .pre .source) (c .before .loop-test .taken) in
     (omega arith, simp length-set (at .inv .1), sym e ∙ at .inv .2)
 
 same-length : tie.Need-same-length Inv-loop μ-loop

@@ -17,17 +17,17 @@ Inv-loop marks₀ low high who m₀ top marks m =
 abbrev μ-loop : tie.MeasureT-loop
 μ-loop marks₀ low high who m₀ top marks m = top + 1 - m
 
-at-least-221-requires : tie.Need-at-least-221-requires Inv-loop μ-loop
-at-least-221-requires c κs = tt
+at-least-lowest-requires : tie.Need-at-least-lowest-requires Inv-loop μ-loop
+at-least-lowest-requires c κs = tt
 
-at-most-300-requires : tie.Need-at-most-300-requires Inv-loop μ-loop
-at-most-300-requires c κs = tt
+at-most-highest-requires : tie.Need-at-most-highest-requires Inv-loop μ-loop
+at-most-highest-requires c κs = tt
 
 loop-holds : tie.Need-loop-holds Inv-loop μ-loop
 loop-holds c =
-    let e = c .before .at-least-221 .ensures in
+    let e = c .before .at-least-lowest .ensures in
     let low = c .before .before .args .low in
-    (omega arith, omega arith, omega arith, c .at-most-300 .ensures, struck-as (λ x lo hi. band-start low _ x e lo) (struck-none _ _ _ _ (c .before .before .pre .0)))
+    (omega arith, omega arith, omega arith, c .at-most-highest .ensures, struck-as (λ x lo hi. band-start low _ x e lo) (struck-none _ _ _ _ (c .before .before .pre .0)))
 
 sub-k : tie.Need-sub-k Inv-loop μ-loop
 sub-k c = omega arith
@@ -71,8 +71,8 @@ band-spec =
     (tie.spec
     Inv-loop
     μ-loop
-    at-least-221-requires
-    at-most-300-requires
+    at-least-lowest-requires
+    at-most-highest-requires
     loop-holds
     sub-k
     mul-was

@@ -1,0 +1,47 @@
+-- Inside: what the functions of this crate, and of those that go by its marks and flags, ask. Assumes nothing.
+use Prim.Native.Nat.{ℕ, _≤_, _<_}
+use mathlib.Core.Bool.{Bool}
+use mathlib.Core.List.{List}
+use mathlib.Core.Path.{_≡_}
+use lib.ListN.{length}
+use Rattle.part73.specs.Channels.{lowest, channelCount}
+use Rattle.part73.specs.TableA.{tableA}
+use Rattle.spacing.specs.declared.Place.{Place}
+use Rattle.stations.specs.Image.{count, Accepted}
+use Rattle.survey.specs.Ways.{everyRecord}
+use Rattle.survey.specs.Marks.{Asked, Marked}
+use Rattle.survey.specs.Walking.{Walk}
+use Rattle.survey.specs.declared.Channels.{Channels}
+use Rattle.planning.specs.Scene.{sceneOf}
+use Rattle.planning.specs.Flags.{Mark, Kept, Room, Down}
+
+-- a mark of a survey of a table
+pub record Surveyed (s : List ℕ) (mark : ℕ) : Type 0 where
+  pub accepted : Accepted s
+  pub known : Mark (count s) mark
+
+-- a mark of one station of a table of n
+pub record Single (n mark : ℕ) : Type 0 where
+  pub some : 0 < mark
+  pub within : mark ≤ n
+
+-- the marks from the site of one station, where those of another are kept
+pub record Resurvey (s : List ℕ) (mark whose : ℕ) (kept : List ℕ) : Type 0 where
+  pub accepted : Accepted s
+  pub single : Single (count s) mark
+  pub held : Kept tableA everyRecord s whose kept
+
+-- the row of the new channel c, whose lone blocker is marked
+pub record Flagging (s : List ℕ) (p : Place) (limits : List ℕ) (c mark : ℕ) (row : List Bool) : Type 0 where
+  pub walk : Walk s p limits
+  pub low : lowest ≤ c
+  pub single : Single (count s) mark
+  pub long : length row ≡ channelCount
+
+-- the rows of new channels, by their marks
+pub record Planning (s : List ℕ) (p : Place) (limits : List ℕ) (channels : Channels) (marks : List ℕ) (moves : List Bool) : Type 0 where
+  pub walk : Walk s p limits
+  pub asked : Asked channels
+  pub marked : Marked (sceneOf s p .new) (channels .first) (channels .last) (count s) marks
+  pub down : Down (channels .first) (channels .first) moves
+  pub room : Room channels moves

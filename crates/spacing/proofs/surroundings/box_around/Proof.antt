@@ -1,0 +1,34 @@
+-- `spacing::surroundings::box_around` meets its contract. Assumes nothing.
+use mir.Facts.{toZ-ofZ}
+use native.Mathlib.Omega.{arith}
+use borrow.Author.Needs.{needs}
+use Rattle.part73.proofs.Facts.{table-a}
+use Rattle.spacing.proofs.Places.{lat-fits, lon-fits}
+use Rattle.spacing.proofs.Boxes.{up-seconds, across-seconds, surrounds}
+use Rattle.spacing.proofs.surroundings.box_around.Statement.{statement}
+use Rattle.spacing.proofs.surroundings.box_around.Tie as tie
+
+north-in-requires : tie.Need-north-in-requires
+north-in-requires c κs = search needs
+
+east-in-requires : tie.Need-east-in-requires
+east-in-requires c κs = search needs
+
+cast-t5 : tie.Need-cast-t5
+cast-t5 c =
+    let s = c .before .before in
+    omega (arith, c .before .north-in .ensures, up-seconds table-a (s .pre .1) (s .pre .0) .most)
+
+cast-t6 : tie.Need-cast-t6
+cast-t6 c =
+    let s = c .before .before in
+    omega (arith, c .east-in .ensures, across-seconds table-a (s .pre .1) (s .pre .0) .most)
+
+returns : tie.Need-returns
+returns c =
+    let e = c .before in
+    let s = e .before .before in
+    surrounds table-a (s .pre .1) (s .pre .0) _ (toZ-ofZ (lat-fits (s .pre .1))) (toZ-ofZ (lon-fits (s .pre .1))) (e .before .north-in .ensures) (e .east-in .ensures)
+
+pub box-around-spec : {M : Type 1} → statement M
+box-around-spec = tie.close (tie.spec north-in-requires east-in-requires cast-t5 cast-t6 returns)

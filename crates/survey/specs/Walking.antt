@@ -1,0 +1,50 @@
+-- Inside: a walk over the records of a table, and what it asks. Assumes nothing.
+use mathlib.Core.Path.{_≡_}
+use mathlib.Core.Bool.{Bool, true}
+use mathlib.Core.List.{List}
+use Prim.Native.Nat.{ℕ, _≤_, _<_}
+use lib.IntN.{ℤ, natAbs, _-ℤ_}
+use lib.ListN.{length}
+use mir.Syntax.{w32}
+use mir.Val.{toZ}
+use Rattle.ground.specs.Passing.{Passing}
+use Rattle.part73.specs.Channels.{channelCount}
+use Rattle.part73.specs.TableA.{tableA}
+use Rattle.spacing.specs.Limits.{LimitsAt}
+use Rattle.spacing.specs.Reaching.{InRange, Beyond, Fair}
+use Rattle.spacing.specs.declared.Around.{Around}
+use Rattle.spacing.specs.declared.Place.{Place}
+use Rattle.stations.specs.Image.{stationAt, count, Accepted}
+use Rattle.stations.specs.declared.Station.{Station}
+use Rattle.survey.specs.Marks.{Asked}
+use Rattle.survey.specs.declared.Channels.{Channels}
+
+-- where r says so, the number with the bits x is at least `far` from z
+pub record Away (z : ℤ) (x far : ℕ) (r : Bool) : Type 0 where
+  pub told : r ≡ true → far ≤ natAbs (z -ℤ toZ w32 x)
+
+-- where r says so, a station lies outside a box
+pub record Outside (a : Around) (x : Station) (r : Bool) : Type 0 where
+  pub told : r ≡ true → Beyond a (x .latitude) (x .longitude)
+
+-- from one position to another every record does
+abbrev pub Skipped : List ℕ → Around → ℕ → ℕ → Type 0
+Skipped s a from to = Passing (λ j. Beyond a (stationAt s j .latitude) (stationAt s j .longitude)) (count s) from to
+
+-- a box that a walk from a position on goes by
+pub record Boxed (s : List ℕ) (from : ℕ) (a : Around) : Type 0 where
+  pub accepted : Accepted s
+  pub within : from ≤ count s
+  pub fair : Fair a
+
+-- a walk over an accepted table for a class at a site, with its limits
+pub record Walk (s : List ℕ) (p : Place) (limits : List ℕ) : Type 0 where
+  pub accepted : Accepted s
+  pub placed : InRange p
+  pub held : LimitsAt tableA p limits
+
+-- one that marks channels
+pub record Survey (s : List ℕ) (p : Place) (limits : List ℕ) (c : Channels) (marks : List ℕ) : Type 0 where
+  pub walk : Walk s p limits
+  pub asked : Asked c
+  pub long : length marks ≡ channelCount
