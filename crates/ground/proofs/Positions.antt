@@ -1,13 +1,15 @@
 -- Who stands in a list, and where. Assumes nothing.
-use mathlib.Core.Path.{_≡_, refl}
+use mathlib.Core.Path.{_≡_, refl, sym, ap, _∙_}
 use mathlib.Core.Logic.{_↔_, ⊎-elim}
-use mathlib.Core.Bool.{Bool, false}
+use mathlib.Core.Bool.{Bool, true, false, not, _&&_, _||_}
 use mathlib.Core.List.{List, [], _∷_, List·Memᴰ·head, List·Memᴰ·tail, List·Memᴰ·not-nil, List·Memᴰ·cases-cons}
 use Prim.Native.Nat.{ℕ, zero, suc, _<_}
 use native.Mathlib.Omega.{arith}
 use lib.ListN.{length, drop}
-use Rattle.ground.specs.Lists.{_∈_, build, some}
-use Rattle.ground.proofs.Guards.{or-was, or-none}
+use Rattle.ground.specs.Lists.{_∈_, build, some, every}
+use borrow.Author.Tests.{not-true}
+use Rattle.ground.proofs.Guards.{not-was}
+use Rattle.ground.proofs.Keeps.{every-in}
 use Rattle.ground.proofs.Order.{Ascending, ahead-of, rest-of}
 
 module _ {A : Type 0} where
@@ -31,15 +33,21 @@ module _ {A : Type 0} where
   in-build {x} (suc n) f m =
       ⊎-elim (λ (q : x ≡ f zero). (0, omega arith, q)) (λ (o : x ∈ build n (λ i. f (suc i))). let p = in-build n (λ i. f (suc i)) o in let h = p .1 in (suc (p .0), omega arith, p .2)) (List·Memᴰ·cases-cons m)
 
+  -- one passes a test exactly where not each fails it
+  some-every : (p : A → Bool) (l : List A) → some p l ≡ not (every (λ x. not (p x)) l)
+  unfolding some every
+  some-every p [] = refl
+  some-every p (y ∷ l) = rw (some-every p l) (go (p y))
+    where
+      go : (b : Bool) → (b || not (every (λ x. not (p x)) l)) ≡ not (not b && every (λ x. not (p x)) l)
+      go true = refl
+      go false = refl
+
   -- none passes a test exactly when each fails it
   pub none-in : (p : A → Bool) (l : List A) → (some p l ≡ false) ↔ ((x : A) → x ∈ l → p x ≡ false)
-  unfolding some
-  none-in p [] = (λ e x m. absurd (List·Memᴰ·not-nil m), λ h. refl)
-  none-in p (y ∷ l) = (
-    λ e x m.
-        let w = or-was (p y) (some p l) e in
-        ⊎-elim (λ (q : x ≡ y). rw (q, w .0)) (λ (n : x ∈ l). none-in p l .0 (w .1) x n) (List·Memᴰ·cases-cons m),
-    λ h. or-none (p y) (some p l) (h y (List·Memᴰ·head refl)) (none-in p l .1 (λ x m. h x (List·Memᴰ·tail m))),
+  none-in p l = (
+    λ e x m. not-true _ (every-in (λ x. not (p x)) l .0 (not-was _ (sym (some-every p l) ∙ e)) x m),
+    λ h. some-every p l ∙ ap not (every-in (λ x. not (p x)) l .1 (λ x m. ap not (h x m))),
   )
 
   -- in a list that ascends an earlier one stands before a later one

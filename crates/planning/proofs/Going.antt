@@ -11,16 +11,17 @@ use borrow.Author.Tests.{eqb-false, ne-eqb, not-true}
 use Rattle.ground.proofs.Guards.{and-was}
 use Rattle.part73.specs.Channels.{lowest, highest}
 use Rattle.part73.specs.TableA.{tableA}
-use Rattle.spacing.specs.Pair.{sited}
 use Rattle.spacing.specs.declared.Place.{Place}
 use Rattle.stations.specs.Image.{count, Accepted}
 use Rattle.stations.specs.Lists.{movable}
 use Rattle.survey.specs.Ways.{everyRecord}
 use Rattle.survey.specs.Marks.{many, seen, markOf}
 use Rattle.survey.proofs.Records.{few}
+use Rattle.survey.proofs.Shorts.{hit-at}
 use Rattle.planning.specs.Scene.{Scene, scene, sceneOf, newBut, movedBut, allowed}
-use Rattle.planning.specs.Flags.{Mark, Lone, stationOf, mayMove, Kept, goes, goesBy, rowOf, Rowed, Right, Down, Planned}
+use Rattle.planning.specs.Flags.{Mark, Lone, stationOf, mayMove, Kept, Meets, goes, goesFrom, rowOf, Rowed, Right, Down, Planned}
 use Rattle.planning.specs.Planning.{Single}
+use Rattle.planning.specs.declared.Blocker.{Blocker}
 use Rattle.planning.proofs.Single.{First, one}
 use Rattle.planning.proofs.Tallies.{Tally, nobody, lone, several, tally, mark-of, but-mark}
 use Rattle.planning.proofs.Rowing.{Turned}
@@ -65,11 +66,16 @@ pub marks-one : (s : List ℕ) (p : Place) (c : ℕ) {v : ℕ} → v ≡ seen (s
 marks-one s p c e = rw e (mark-of (sceneOf s p .new c) (count s) _ (tally _ (count s)))
 
 module _ (s : List ℕ) (p : Place) (a : Accepted s) (c : ℕ) {v : ℕ} (e : v ≡ seen (sceneOf s p .new c) (count s)) where
-  pub right-kept : {kept : List ℕ} {row : List Bool} → mayMove s v ≡ true → Kept tableA everyRecord s v kept → Rowed (goesBy tableA (sited p c) (stationOf s v) v kept) row → Right (sceneOf s p) c v row
+  pub right-kept : {kept : List ℕ} {b : Blocker} {row : List Bool} → lowest ≤ c → mayMove s v ≡ true → Kept tableA everyRecord s v kept → Meets tableA s p v b → Rowed (goesFrom b c kept) row → Right (sceneOf s p) c v row
   unfolding scene
-  right-kept {kept} y k r l =
+  right-kept {kept} low y k w r l =
       let m = moves-yes s v (marks-one s p c e) y in
-      record { at = λ x lo hi. r .at x lo hi ∙ by-kept (sceneOf s p) c v kept (omega (arith, few s a)) (rw e (tally (sceneOf s p .new c) (count s))) l (m .1) (k .of (m .0 .some) .at) x lo hi }
+      let some = m .0 .some in
+      record {
+        at =
+            λ x lo hi.
+            r .at x lo hi ∙ rw (w .mark, w .own some, hit-at (w .reach some) c x low) (by-kept (sceneOf s p) c v kept (omega (arith, few s a)) (rw e (tally (sceneOf s p .new c) (count s))) l (m .1) (k .of some .at) x lo hi);
+      }
 
   pub right-down : {row : List Bool} → mayMove s v ≡ false → Rowed (λ m. false) row → Right (sceneOf s p) c v row
   unfolding scene allowed

@@ -41,9 +41,6 @@ row-turn {f} {row} {m} {v} r hm e =
 pub row-end : {f : ℕ → Bool} {row : List Bool} {m : ℕ} → Rowing f row m → highest < m → Rowed f row
 row-end r h = record { at = λ x lo hi. r .at x lo (omega arith) }
 
-pub rowed-as : {f g : ℕ → Bool} {row : List Bool} → ((m : ℕ) → f m ≡ g m) → Rowed f row → Rowed g row
-rowed-as e r = record { at = λ m lo hi. r .at m lo hi ∙ e m }
-
 -- ---- lent and put back
 
 -- the row of the new channel c is another, and those of the others are as they were

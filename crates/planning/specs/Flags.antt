@@ -7,14 +7,17 @@ use mathlib.Core.Path.{_≡_}
 use lib.Dec.{eqb}
 use lib.ListN.{length, getD, take, drop}
 use Rattle.part73.specs.Channels.{lowest, highest, channelCount}
-use Rattle.spacing.specs.Pair.{Assignment, shortBy}
+use Rattle.part73.specs.Columns.{gap}
+use Rattle.spacing.specs.Reaching.{hits, Reaches}
+use Rattle.spacing.specs.declared.Place.{Place}
 use Rattle.stations.specs.Image.{stationAt, count}
 use Rattle.stations.specs.Lists.{movable}
 use Rattle.stations.specs.declared.Station.{Station}
-use Rattle.survey.specs.Ways.{onChannel}
+use Rattle.survey.specs.Ways.{onChannel, placeOf}
 use Rattle.survey.specs.Marks.{blocks, many, seen, markOf, Marked}
 use Rattle.survey.specs.declared.Channels.{Channels}
 use Rattle.planning.specs.Scene.{Scene, allowed}
+use Rattle.planning.specs.declared.Blocker.{Blocker}
 
 -- ---- marks
 
@@ -39,15 +42,21 @@ pub record Kept (km : ℕ → ℕ → ℕ → ℕ) (look : Station → Bool) (s 
   pub long : length kept ≡ channelCount
   pub of : 0 < whose → Marked (λ m j. blocks km look s (onChannel m (stationOf s whose)) j) lowest highest (count s) kept
 
+-- what is known of the station that v marks: it is this one, and the new one at p reaches it so
+pub record Meets (km : ℕ → ℕ → ℕ → ℕ) (s : List ℕ) (p : Place) (v : ℕ) (b : Blocker) : Type 0 where
+  pub mark : b .mark ≡ v
+  pub own : 0 < v → b .own ≡ stationOf s v .channel
+  pub reach : 0 < v → Reaches km p (placeOf (stationOf s v)) (b .reach)
+
 -- ---- where a marked station may go
 
 -- not to its own channel; the mark there, from its site, is of nobody or its own; and the new one does not meet it there
 abbrev pub goes : ℕ → ℕ → ℕ → ℕ → Bool → Bool
 goes there mark m own meets = not (eqb m own) && ((eqb there 0 || eqb there mark) && not meets)
 
--- the station r, by the marks from its site and a table of separations
-abbrev pub goesBy : (ℕ → ℕ → ℕ → ℕ) → Assignment → Station → ℕ → List ℕ → ℕ → Bool
-goesBy km new r mark kept m = goes (markOf kept m) mark m (r .channel) (shortBy km new (onChannel m r))
+-- by the marks from its site and what is known of it, with the new one on c
+abbrev pub goesFrom : Blocker → ℕ → List ℕ → ℕ → Bool
+goesFrom b c kept m = goes (markOf kept m) (b .mark) m (b .own) (hits (b .reach) (gap c m))
 
 -- ---- flags
 

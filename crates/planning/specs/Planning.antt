@@ -2,9 +2,6 @@
 use Prim.Native.Nat.{ℕ, _≤_, _<_}
 use mathlib.Core.Bool.{Bool}
 use mathlib.Core.List.{List}
-use mathlib.Core.Path.{_≡_}
-use lib.ListN.{length}
-use Rattle.part73.specs.Channels.{lowest, channelCount}
 use Rattle.part73.specs.TableA.{tableA}
 use Rattle.spacing.specs.declared.Place.{Place}
 use Rattle.stations.specs.Image.{count, Accepted}
@@ -13,7 +10,8 @@ use Rattle.survey.specs.Marks.{Asked, Marked}
 use Rattle.survey.specs.Walking.{Walk}
 use Rattle.survey.specs.declared.Channels.{Channels}
 use Rattle.planning.specs.Scene.{sceneOf}
-use Rattle.planning.specs.Flags.{Mark, Kept, Room, Down}
+use Rattle.planning.specs.Flags.{Mark, Kept, Meets, Room, Down}
+use Rattle.planning.specs.declared.Blocker.{Blocker}
 
 -- a mark of a survey of a table
 pub record Surveyed (s : List ℕ) (mark : ℕ) : Type 0 where
@@ -31,12 +29,11 @@ pub record Resurvey (s : List ℕ) (mark whose : ℕ) (kept : List ℕ) : Type 0
   pub single : Single (count s) mark
   pub held : Kept tableA everyRecord s whose kept
 
--- the row of the new channel c, whose lone blocker is marked
-pub record Flagging (s : List ℕ) (p : Place) (limits : List ℕ) (c mark : ℕ) (row : List Bool) : Type 0 where
+-- what is known of one station, where that of another is kept
+pub record Meeting (s : List ℕ) (p : Place) (limits : List ℕ) (mark : ℕ) (kept : Blocker) : Type 0 where
   pub walk : Walk s p limits
-  pub low : lowest ≤ c
   pub single : Single (count s) mark
-  pub long : length row ≡ channelCount
+  pub held : Meets tableA s p (kept .mark) kept
 
 -- the rows of new channels, by their marks
 pub record Planning (s : List ℕ) (p : Place) (limits : List ℕ) (channels : Channels) (marks : List ℕ) (moves : List Bool) : Type 0 where

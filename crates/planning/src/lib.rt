@@ -12,8 +12,8 @@ ghost use Rattle.spacing.specs.Reaching.{hits};
 ghost use Rattle.survey.specs.Ways.{everyRecord};
 ghost use Rattle.survey.specs.Marks.{markOf};
 ghost use Rattle.planning.specs.Scene.{sceneOf};
-ghost use Rattle.planning.specs.Flags.{stationOf, mayMove, Kept, goes, goesBy, Rowed, Planned};
-ghost use Rattle.planning.specs.Planning.{Surveyed, Resurvey, Flagging, Planning};
+ghost use Rattle.planning.specs.Flags.{mayMove, Kept, Meets, goes, goesFrom, Rowed, Planned};
+ghost use Rattle.planning.specs.Planning.{Surveyed, Resurvey, Meeting, Planning};
 use part73::CHANNEL_COUNT;
 use part73::HIGHEST;
 use part73::LOWEST;
@@ -22,6 +22,13 @@ use spacing::Place;
 use spacing::Reach;
 use survey::Channels;
 use survey::MANY;
+
+// The station that a mark is of: its channel, and how far it and the new station reach.
+pub struct Blocker {
+    pub mark: u16,
+    pub own: usize,
+    pub reach: Reach,
+}
 
 // A mark of nobody, or of the station itself.
 fn free(there: u16, mark: u16) -> bool
@@ -46,21 +53,16 @@ fn may_go(there: u16, mark: u16, m: usize, own: usize, c: usize, steps: usize, f
     false
 }
 
-// The row of one new channel: where its lone blocker may go.
-fn fill_row(
-    kept: &[u16; CHANNEL_COUNT],
-    mark: u16,
-    own: usize,
-    c: usize,
-    reach: Reach,
-    row: &mut [bool],
-)
+// The row of the new channel c: where its lone blocker may go.
+fn fill_row(kept: &[u16; CHANNEL_COUNT], blocker: Blocker, c: usize, row: &mut [bool])
     requires { ⌜ length (now row) ≡ channelCount ⌝ }
-    ensures { λ _. ⌜ Rowed (λ m. goes (markOf (now (kept .entry)) m) mark m own (hits reach (gap c m))) (now (row .exit)) ⌝ }
+    ensures { λ _. ⌜ Rowed (goesFrom blocker c (now (kept .entry))) (now (row .exit)) ⌝ }
 {
     // Taken apart here, so that the loop does several flags at a time.
-    let steps = reach.steps;
-    let far = reach.far;
+    let mark = blocker.mark;
+    let own = blocker.own;
+    let steps = blocker.reach.steps;
+    let far = blocker.reach.far;
     let mut m = LOWEST;
     while m <= HIGHEST {
         let k = m - LOWEST;
@@ -103,28 +105,23 @@ fn survey_from(table: &[u8], mark: u16, whose: u16, kept: &mut [u16; CHANNEL_COU
     survey::survey(table, place, &limits, channels, kept)
 }
 
-// The row of one new channel, whose lone blocker is movable.
-fn flag_moves(
-    table: &[u8],
-    place: Place,
-    limits: &Limits,
-    c: usize,
-    mark: u16,
-    kept: &[u16; CHANNEL_COUNT],
-    row: &mut [bool],
-)
-    requires { ⌜ Flagging (now table) place (now limits) c mark (now row) ⌝ }
-    ensures { λ _. ⌜ Rowed (goesBy tableA (sited place c) (stationOf (now (table .entry)) mark) mark (now (kept .entry))) (now (row .exit)) ⌝ }
+// The station that `mark` marks, unless it is the one that is kept.
+fn blocker_at(table: &[u8], place: Place, limits: &Limits, mark: u16, kept: Blocker) -> Blocker
+    requires { ⌜ Meeting (now table) place (now limits) mark kept ⌝ }
+    ensures { λ r. ⌜ Meets tableA (now (table .entry)) place mark r ⌝ }
 {
+    if mark == kept.mark {
+        return kept;
+    }
     let r = stations::station_at(table, mark as usize - 1);
     let own = r.channel as usize;
     let theirs = survey::place_of(r);
     let reach = spacing::reach_of(place, limits, theirs);
-    fill_row(kept, mark, own, c, reach, row)
+    Blocker { mark, own, reach }
 }
 
-// The rows of new channels: flags where one movable station alone stands in the way. One survey from that station's site
-// serves all the new channels that it alone blocks, one after the other.
+// The rows of new channels: flags where one movable station alone stands in the way. One survey from that station's site, and
+// one look at how far it and the new one reach, serve all the new channels that it alone blocks, one after the other.
 pub fn plan(
     table: &[u8],
     place: Place,
@@ -139,17 +136,24 @@ pub fn plan(
     let first = channels.first;
     let last = channels.last;
     let mut kept = [0u16; CHANNEL_COUNT];
-    let mut whose: u16 = 0;
+    let mut blocker = Blocker {
+        mark: 0,
+        own: 0,
+        reach: Reach {
+            steps: 0,
+            far: false,
+        },
+    };
     let mut c = first;
     while c <= last {
         let k = c - LOWEST;
         let mark = marks[k];
         if may_move(table, mark) {
-            survey_from(table, mark, whose, &mut kept);
-            whose = mark;
+            survey_from(table, mark, blocker.mark, &mut kept);
+            blocker = blocker_at(table, place, limits, mark, blocker);
             let a = CHANNEL_COUNT * (c - first);
             let b = a + CHANNEL_COUNT;
-            flag_moves(table, place, limits, c, mark, &kept, &mut moves[a..b]);
+            fill_row(&kept, blocker, c, &mut moves[a..b]);
         }
         c += 1;
     }

@@ -2,19 +2,16 @@
 use Prim.Native.Nat.{_+_, _-_}
 use native.Mathlib.Omega.{arith}
 use Rattle.part73.specs.Channels.{highest}
-use Rattle.part73.specs.Columns.{gap}
-use Rattle.spacing.specs.Reaching.{hits}
-use Rattle.survey.specs.Marks.{markOf}
-use Rattle.planning.specs.Flags.{goes}
+use Rattle.planning.specs.Flags.{goesFrom}
 use Rattle.planning.proofs.Rowing.{Rowing, row-start, row-turn, row-end}
 use Rattle.planning.proofs.fill_row.Statement.{statement}
 use Rattle.planning.proofs.fill_row.Tie as tie
 
 abbrev Inv-loop : tie.InvT-loop
-Inv-loop kept mark own c row₀ steps far m₀ row m = Rowing (λ x. goes (markOf kept x) mark x own (hits (record { steps = steps; far = far }) (gap c x))) row m
+Inv-loop kept c row₀ mark own steps far m₀ row m = Rowing (goesFrom (record { mark = mark; own = own; reach = record { steps = steps; far = far } }) c kept) row m
 
 abbrev μ-loop : tie.MeasureT-loop
-μ-loop kept mark own c row₀ steps far m₀ row m = highest + 1 - m
+μ-loop kept c row₀ mark own steps far m₀ row m = highest + 1 - m
 
 loop-holds : tie.Need-loop-holds Inv-loop μ-loop
 loop-holds c = row-start _ _ (c .before .pre)

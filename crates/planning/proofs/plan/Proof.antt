@@ -1,5 +1,5 @@
 -- `planning::plan` meets its contract. Assumes nothing.
-use mathlib.Core.Path.{_≡_, refl, sym, _∙_}
+use mathlib.Core.Path.{_≡_, refl, sym, subst, _∙_}
 use mathlib.Core.Bool.{Bool, true}
 use mathlib.Core.List.{List}
 use mathlib.Core.Logic.{⊎-elim}
@@ -8,39 +8,45 @@ use native.Mathlib.Omega.{arith}
 use lib.ListN.{length}
 use denote.Ref.{now}
 use borrow.Rule.Slice.PartMut.{midOf, mid-len}
-use Rattle.part73.specs.Channels.{channelCount}
+use Rattle.part73.specs.Channels.{lowest, channelCount}
 use Rattle.part73.specs.TableA.{tableA}
 use Rattle.spacing.specs.declared.Place.{Place}
 use Rattle.stations.specs.Image.{count}
 use Rattle.survey.specs.Ways.{everyRecord}
 use Rattle.survey.specs.Marks.{seen, markOf}
 use Rattle.planning.specs.Scene.{scene, sceneOf}
-use Rattle.planning.specs.Flags.{Mark, mayMove, Kept, start, Right, Planned}
+use Rattle.planning.specs.Flags.{Mark, mayMove, Kept, Meets, start, Right, Planned}
 use Rattle.planning.specs.Planning.{Single}
+use Rattle.planning.specs.declared.Blocker.{Blocker}
 use Rattle.planning.proofs.Rowing.{Turned, turned, unturned}
 use Rattle.planning.proofs.Going.{moves-yes, marks-one, right-kept, right-down, plan-start, plan-turn}
 use Rattle.planning.proofs.plan.Statement.{statement}
 use Rattle.planning.proofs.plan.Tie as tie
 
 -- where the rows of the new channels before c are done
-record Turns (s : List ℕ) (p : Place) (first last : ℕ) (moves₀ moves : List Bool) (kept : List ℕ) (whose c : ℕ) : Type 0 where
+record Turns (s : List ℕ) (p : Place) (first last : ℕ) (moves₀ moves : List Bool) (kept : List ℕ) (blocker : Blocker) (c : ℕ) : Type 0 where
   low : first ≤ c
   high : c ≤ last + 1
   long : length moves ≡ length moves₀
-  held : Kept tableA everyRecord s whose kept
+  held : Kept tableA everyRecord s (blocker .mark) kept
+  met : Meets tableA s p (blocker .mark) blocker
   planned : Planned (sceneOf s p) first c moves
 
+-- what is known of a station, under its own mark
+itself : {s : List ℕ} {p : Place} {v : ℕ} {b : Blocker} → Meets tableA s p v b → Meets tableA s p (b .mark) b
+itself {s} {p} {v} {b} m = subst (λ x. Meets tableA s p x b) (sym (m .mark)) m
+
 -- one more
-next : {s : List ℕ} {p : Place} {first last : ℕ} {moves₀ moves row moves′ : List Bool} {kept kept′ : List ℕ} {whose whose′ c v : ℕ} → Turns s p first last moves₀ moves kept whose c → c ≤ last → Turned first c row moves moves′
-    → Kept tableA everyRecord s whose′ kept′ → v ≡ seen (sceneOf s p .new c) (count s) → Right (sceneOf s p) c v row → Turns s p first last moves₀ moves′ kept′ whose′ (c + 1)
+next : {s : List ℕ} {p : Place} {first last : ℕ} {moves₀ moves row moves′ : List Bool} {kept kept′ : List ℕ} {blocker blocker′ : Blocker} {c v : ℕ} → Turns s p first last moves₀ moves kept blocker c → c ≤ last → Turned first c row moves moves′
+    → Kept tableA everyRecord s (blocker′ .mark) kept′ → Meets tableA s p (blocker′ .mark) blocker′ → v ≡ seen (sceneOf s p .new c) (count s) → Right (sceneOf s p) c v row → Turns s p first last moves₀ moves′ kept′ blocker′ (c + 1)
 unfolding scene
-next i h u k e r = record { low = omega (arith, i .low); high = omega arith; long = u .long ∙ i .long; held = k; planned = plan-turn (i .low) (i .planned) u e r }
+next i h u k b e r = record { low = omega (arith, i .low); high = omega arith; long = u .long ∙ i .long; held = k; met = b; planned = plan-turn (i .low) (i .planned) u e r }
 
 abbrev Inv-loop : tie.InvT-loop
-Inv-loop table place limits marks moves₀ first last kept₀ whose₀ c₀ moves kept whose c = Turns table place first last moves₀ moves kept whose c
+Inv-loop table place limits marks moves₀ first last kept₀ blocker₀ c₀ moves kept blocker c = Turns table place first last moves₀ moves kept blocker c
 
 abbrev μ-loop : tie.MeasureT-loop
-μ-loop table place limits marks moves₀ first last kept₀ whose₀ c₀ moves kept whose c = last + 1 - c
+μ-loop table place limits marks moves₀ first last kept₀ blocker₀ c₀ moves kept blocker c = last + 1 - c
 
 loop-holds : tie.Need-loop-holds Inv-loop μ-loop
 loop-holds c =
@@ -50,6 +56,7 @@ loop-holds c =
       high = omega (arith, s .pre .asked);
       long = refl;
       held = record { long = refl; of = λ h. absurd (omega arith) };
+      met = record { mark = refl; own = λ h. absurd (omega arith); reach = λ h. absurd (omega arith) };
       planned = plan-start _ (s .pre .down);
     }
 
@@ -108,34 +115,32 @@ survey-from-requires c κs =
     let t = c .before in
     record { accepted = s (m t) .pre .walk .accepted; single = single t; held = at (m t) .loop .inv .held }
 
+blocker-at-requires : tie.Need-blocker-at-requires Inv-loop μ-loop
+blocker-at-requires c κs =
+    let t = c .before .before in
+    record { walk = s (m t) .pre .walk; single = single t; held = at (m t) .loop .inv .met }
+
 sub-a : tie.Need-sub-a Inv-loop μ-loop
-sub-a c = at (m (c .before .before)) .loop .inv .low
+sub-a c = at (m (c .before .before .before)) .loop .inv .low
 
 mul-a : tie.Need-mul-a Inv-loop μ-loop
-mul-a c = let w = within (m (c .before .before)) in omega (arith, w, s (m (c .before .before)) .good)
+mul-a c = let w = within (m (c .before .before .before)) in omega (arith, w, s (m (c .before .before .before)) .good)
 
 add-b : tie.Need-add-b Inv-loop μ-loop
-add-b c = let w = within (m (c .before .before)) in omega (arith, w, s (m (c .before .before)) .good)
+add-b c = let w = within (m (c .before .before .before)) in omega (arith, w, s (m (c .before .before .before)) .good)
 
-sub-flag-moves : tie.Need-sub-flag-moves Inv-loop μ-loop
-sub-flag-moves c = omega arith
+sub-fill-row : tie.Need-sub-fill-row Inv-loop μ-loop
+sub-fill-row c = omega arith
 
-part-flag-moves-start : tie.Need-part-flag-moves-start Inv-loop μ-loop
-part-flag-moves-start c = omega arith
+part-fill-row-start : tie.Need-part-fill-row-start Inv-loop μ-loop
+part-fill-row-start c = omega arith
 
-part-flag-moves-end : tie.Need-part-flag-moves-end Inv-loop μ-loop
-part-flag-moves-end c = within (m (c .before .before .before))
+part-fill-row-end : tie.Need-part-fill-row-end Inv-loop μ-loop
+part-fill-row-end c = within (m (c .before .before .before .before))
 
-flag-moves-requires : tie.Need-flag-moves-requires Inv-loop μ-loop
-flag-moves-requires c κs =
-    let t = c .before .before .before .before in
-    let l = at (m t) .loop in
-    record {
-      walk = s (m t) .pre .walk;
-      low = omega (arith, s (m t) .pre .asked .low, l .inv .low);
-      single = single t;
-      long = row-long t;
-    }
+fill-row-requires : tie.Need-fill-row-requires Inv-loop μ-loop
+fill-row-requires c κs =
+    row-long (c .before .before .before .before .before)
 
 add-c : tie.Need-add-c Inv-loop μ-loop
 add-c c = let n = c .before .before in omega (arith, n .before .loop-test .taken, s n .pre .asked .high)
@@ -151,12 +156,14 @@ loop-again c =
     ⊎-elim
     (λ w.
     let t : tie.Then1 Inv-loop μ-loop = record { before = c .before; if1 = w .0 } in
-    let e : length (w .5 .last .1 .1 .1 .1 .1 .1 .0) ≡ channelCount = w .5 .kept .1 .1 .1 .1 .1 .1 .0 ∙ row-long t in
-    rw (w .8, w .9, w .10)
-    (next i on (turned _ _ _ (i .low) refl (within n) e) (w .2 .ensures) (is n) (right-kept _ _ (s n .pre .walk .accepted) _ (is n) (moves t) (w .2 .ensures) (w .5 .ensures))))
+    let e : length (w .6 .last .1 .1 .1 .0) ≡ channelCount = w .6 .kept .1 .1 .1 .0 ∙ row-long t in
+    let met = w .3 .ensures in
+    let low : lowest ≤ at n .loop .c = omega (arith, s n .pre .asked .low, i .low) in
+    rw (w .9, w .10, w .11)
+    (next i on (turned _ _ _ (i .low) refl (within n) e) (rw (met .mark) (w .2 .ensures)) (itself met) (is n) (right-kept _ _ (s n .pre .walk .accepted) _ (is n) low (moves t) (w .2 .ensures) met (w .6 .ensures))))
     (λ w.
     rw (w .1, w .2, w .3)
-    (next i on (unturned _) (i .held) (is n) (right-down _ _ (s n .pre .walk .accepted) _ (is n) (sym (c .before .may-move .ensures) ∙ w .0 .left) (i .planned .down .at _ (omega arith)))))
+    (next i on (unturned _) (i .held) (i .met) (is n) (right-down _ _ (s n .pre .walk .accepted) _ (is n) (sym (c .before .may-move .ensures) ∙ w .0 .left) (i .planned .down .at _ (omega arith)))))
     (c .if1 .came)
 
 same-length : tie.Need-same-length Inv-loop μ-loop
@@ -181,13 +188,14 @@ plan-spec =
     element-copy-out-mark
     may-move-requires
     survey-from-requires
+    blocker-at-requires
     sub-a
     mul-a
     add-b
-    sub-flag-moves
-    part-flag-moves-start
-    part-flag-moves-end
-    flag-moves-requires
+    sub-fill-row
+    part-fill-row-start
+    part-fill-row-end
+    fill-row-requires
     add-c
     loop-less
     loop-again
