@@ -11,13 +11,14 @@ cd "$room" && ln -s "$root/fm" fm && ln -s "$root/examples" examples || exit 3
 
 # Has fm build what is missing, so that the day below is answers alone.
 ./fm show examples/region.fms >/dev/null && ./fm check examples/region.fms 221 A II 0 0 >/dev/null &&
-    ./fm arrange examples/region.fms A II 0 0 >/dev/null || exit 3
+    ./fm arrange examples/region.fms A II 0 0 >/dev/null && ./fm distance 0 0 0 0 >/dev/null || exit 3
 
 while IFS= read -r line; do
     printf '$ %s\n' "$line"
     sh -c "$line" 2>&1 </dev/null
 done <<'DAY'
 ./fm show examples/region.fms | sed -n 1,6p
+./fm check --help | sed -n 1,4p
 ./fm check examples/region.fms 270 C3 II 41-45-12N 046-20-30W
 ./fm arrange examples/region.fms C3 II 41-45-12N 046-20-30W
 ./fm arrange --raw examples/region.fms C3 II 41-45-12N 046-20-30W | sed -n 1,3p
@@ -25,6 +26,7 @@ done <<'DAY'
 ./fm move examples/region.fms moved.fms 1161 276
 ./fm add moved.fms evening.fms 3001 270 C3 II 41-45-12N 046-20-30W
 ./fm check evening.fms 271 A II 41-30-00N 046-00-00W
+./fm distance 41-45-12N 046-20-30W 40-57-30N 046-10-00W
 ./fm withdraw evening.fms tomorrow.fms 1009
 ./fm add tomorrow.fms twice.fms 3001 236 C3 II 41-45-12N 046-20-30W || echo "status $?"
 ./fm check tomorrow.fms 236 B II 41-45-12N 046-20-30W || echo "status $?"

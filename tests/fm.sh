@@ -97,7 +97,7 @@ mkdir folder
 before=$(cksum ./*[!g].fms)
 
 # Builds what is missing, so that what follows is answers alone.
-for words in 'check one.fms 221 A II 0 0' 'arrange one.fms A II 0 0' 'show one.fms'; do
+for words in 'check one.fms 221 A II 0 0' 'arrange one.fms A II 0 0' 'show one.fms' 'distance 0 0 0 0'; do
     # shellcheck disable=SC2086
     "$fm" $words >/dev/null 2>said </dev/null || {
         cat said
@@ -144,8 +144,57 @@ SAYS
 try 2 show <<'SAYS'
 fm: wrong number of words for show (0, not 1): ./fm show TABLE
 SAYS
+try 2 distance 0 0 0 <<'SAYS'
+fm: wrong number of words for distance (3, not 4): ./fm distance LAT LON LAT LON
+SAYS
 try 2 show --raw one.fms <<'SAYS'
 fm: show has no --raw: no proved program prints a table
+SAYS
+try 0 show --help <<'SAYS'
+fm show: the stations of a table
+
+  ./fm show TABLE
+  Example: ./fm show examples/region.fms
+
+Each stands in a line: position, id, channel, class, whether it may move, site.
+
+  TABLE    a file of stations; it is only read
+
+Refuses: a damaged table (1 to 12).
+SAYS
+try 0 distance --help <<'SAYS'
+fm distance: how many km two sites are apart
+
+  ./fm distance LAT LON LAT LON
+  Example: ./fm distance 41-45-12N 046-20-30W 41-30-00N 046-00-00W
+
+By the method of 47 CFR 73.208, in whole km, as in the lines of check.
+
+  LAT LON  degrees, minutes and seconds, as 40-44-54N 073-59-09W, or seconds of arc, as 146694 -266349
+  --raw    anywhere among the words: the proved program's own lines instead of sentences (not for show)
+
+Refuses: a site out of range (17), sites more than 475 km apart (24).
+SAYS
+# Each command of the page: its line there, its own help in each way of asking, and an example of as many words.
+for command in check arrange add withdraw move distance show; do
+    of=$("$fm" "$command" --help 2>/dev/null)
+    hold "fm $command --help: status" [ $? -eq 0 ]
+    usage=$(printf '%s\n' "$of" | sed -n "s|^  \./fm $command |$command |p")
+    example=$(printf '%s\n' "$of" | sed -n "s|^  Example: \./fm $command |$command |p")
+    hold "fm help: the words of $command" [ "$("$fm" help | grep -c "^  \./fm $usage  ")" -eq 1 ]
+    hold "fm $command --help: the words of the example" [ "$(echo "$example" | wc -w)" -eq "$(echo "$usage" | wc -w)" ]
+    hold "fm help $command" [ "$("$fm" help "$command")" = "$of" ]
+    hold "fm --help $command" [ "$("$fm" --help "$command")" = "$of" ]
+    hold "fm $command: --help wins" [ "$("$fm" "$command" absent.fms --raw --help 999 more words than it takes)" = "$of" ]
+done
+try 2 help chek <<'SAYS'
+fm: 'chek' is no command: ./fm help lists them
+SAYS
+try 2 chek --help <<'SAYS'
+fm: 'chek' is no command: ./fm help lists them
+SAYS
+try 2 help check show <<'SAYS'
+fm: wrong number of words for help (2, not 0 or 1): ./fm help [COMMAND]
 SAYS
 
 # ---- check
@@ -266,6 +315,55 @@ position          id  channel  class  move         latitude  longitude
        2  4294967295      300  C      movable      75-00-00S 180-00-00E
 SAYS
 hold "show: 2,000 stations" [ "$("$fm" show full.fms | wc -l)" -eq 2002 ]
+
+# ---- distance
+try 0 distance 0 0 0 3600 <<'SAYS'
+00-00-00N 000-00-00E and 00-00-00N 001-00-00E are 111 km apart by 47 CFR 73.208.
+SAYS
+try 0 distance 40-44-54N 073-59-09W 42-21-30n 071-03-37w <<'SAYS'
+40-44-54N 073-59-09W and 42-21-30N 071-03-37W are 303 km apart by 47 CFR 73.208.
+SAYS
+try 0 distance 75-00-00S 180-00-00E -270000 +648000 <<'SAYS'
+75-00-00S 180-00-00E and 75-00-00S 180-00-00E are 0 km apart by 47 CFR 73.208.
+SAYS
+# The last of 114 km and the first of 115; the last short of 290 km; at 75 degrees; the last of 475 km.
+for words in '114 0 0 0 3702' '115 0 0 0 3703' '289 4712 0 -4712 0' '290 4713 0 -4713 0' '462 75-00-00N 0 75-00-00N 016-00-00E' \
+    '29 75-00-00S 180-00-00W 75-00-00S 179-00-00W' '475 0 0 0 15377' '475 15481 0 0 0'; do
+    # shellcheck disable=SC2086
+    set -- $words
+    km=$1
+    shift
+    try 0 distance "$@" --raw <<SAYS
+$km
+SAYS
+    try 0 --raw distance "$3" "$4" "$1" "$2" <<SAYS
+$km
+SAYS
+done
+for words in '0 0 0 15378' '0 0 15482 0' '0 180-00-00W 0 180-00-00E'; do
+    # shellcheck disable=SC2086
+    try 1 distance $words <<'SAYS'
+fm: refused with number 24: the sites are more than 475 km apart, where the distance method of 73.208 does not hold.
+SAYS
+done
+for words in '75-00-01N 0 0 0' '0 180-00-01W 0 0' '0 0 -270001 0' '0 0 0 648001' '2147483647 0 0 0' '0 0 0 -2147483648'; do
+    # shellcheck disable=SC2086
+    try 1 distance $words <<'SAYS'
+fm: refused with number 17: a site is out of range. Latitudes go from 75-00-00S to 75-00-00N, longitudes from 180-00-00W to 180-00-00E.
+SAYS
+done
+try 1 distance 0 0 0 15378 --raw <<'SAYS'
+refused 24 0
+SAYS
+try 1 distance --raw 0 0 0 648001 <<'SAYS'
+refused 17 0
+SAYS
+try 2 distance 0 0 0 1.5 <<'SAYS'
+fm: '1.5' is no longitude: write degrees-minutes-seconds and E or W, as 073-59-09W, or seconds of arc in 32 bits, as 266349 or -266349
+SAYS
+try 2 distance 0 0 073-59-09W 0 <<'SAYS'
+fm: '073-59-09W' is no latitude: write degrees-minutes-seconds and N or S, as 40-44-54N, or seconds of arc in 32 bits, as 146694 or -146694
+SAYS
 
 # ---- new tables
 try 0 add one.fms new.fms 9 250 A II 0 3703 <<'SAYS'
@@ -460,7 +558,7 @@ hold "no table was touched" [ "$(cksum ./*[!g].fms)" = "$before" ]
 hold "a cut write: status 3" [ $? -eq 3 ]
 hold "a cut write leaves nothing" only folder
 if [ -c /dev/full ] && [ -w /dev/full ]; then
-    for words in 'check one.fms 250 A II 0 0' 'arrange one.fms A II 0 0' 'check --raw one.fms 250 A II 0 0' 'show one.fms' help; do
+    for words in 'check one.fms 250 A II 0 0' 'arrange one.fms A II 0 0' 'check --raw one.fms 250 A II 0 0' 'show one.fms' 'distance 0 0 0 1' help 'help check'; do
         # shellcheck disable=SC2086
         "$fm" $words >/dev/full 2>said </dev/null
         hold "fm $words: status 3 on a full output" [ $? -eq 3 ]
@@ -534,28 +632,108 @@ path=$room/tools
 try 3 check one.fms 250 A II 0 0 <<'SAYS'
 fm: target/bin/fm_check is not built, and there is no rt to build it with
 SAYS
+# The crates that fm_check stands on are four: io and libc are none of the repository, and aside is not below it.
+cat >other/crates.txt <<'CRATES'
+# NAME: what it stands on
+fm_check: wire lines   # fm_arrange: aside
+aside: ground wire
+lines: ground io libc
+wire: ground
+ground:
+fm_arrange: ground
+CRATES
 script tools/rt 'echo "rt: it does not prove"; exit 1'
 try 3 arrange one.fms A II 0 0 <<'SAYS'
 fm: building fm_arrange with rt check fm_arrange; this is done once and takes some minutes
 rt: it does not prove
 fm: rt check fm_arrange did not prove and build target/bin/fm_arrange
 SAYS
+script tools/rt 'exit 0'
+try 3 arrange one.fms A II 0 0 <<'SAYS'
+fm: building fm_arrange with rt check fm_arrange; this is done once and takes some minutes
+fm: rt check fm_arrange did not prove and build target/bin/fm_arrange
+SAYS
 answers fm_arrange 'echo 221 0 0'
 mv other/target/bin/fm_arrange built
-script tools/rt "mv $room/built target/bin/fm_arrange; exit 1"
+script tools/rt "mv $room/built target/bin/fm_arrange; printf 0; exit 1"
 try 3 arrange --raw one.fms A II 0 0 <<'SAYS'
 fm: building fm_arrange with rt check fm_arrange; this is done once and takes some minutes
-
+0
 fm: rt check fm_arrange did not prove and build target/bin/fm_arrange
 SAYS
 rm -f other/target/bin/fm_arrange
+script tools/rt 'echo "rt: ground proved (unchanged since it was last proved)"
+echo "crates/wire: a fact fails" >&2
+echo "rt: wire NOT PROVED (exit 1, 3 s)"
+echo "rt: lines proved (12 s)"
+echo "rt: fm_check NOT PROVED: its dependency wire is not proved"
+echo "rt: FAILED: wire fm_check"
+exit 1'
+try 3 check one.fms 250 A II 0 0 <<'SAYS'
+fm: building fm_check with rt check fm_check; this is done once and takes some minutes
+fm: 1 of 4 crates proved (ground)
+fm: 2 of 4 crates proved (lines)
+rt: ground proved (unchanged since it was last proved)
+crates/wire: a fact fails
+rt: wire NOT PROVED (exit 1, 3 s)
+rt: lines proved (12 s)
+rt: fm_check NOT PROVED: its dependency wire is not proved
+rt: FAILED: wire fm_check
+fm: rt check fm_check did not prove and build target/bin/fm_check
+SAYS
+# Proves four crates and leaves what stands in `built` as the program.
+proves="[ \"\$*\" = 'check fm_check' ] || exit 2
+echo 'rt: ground proved (1 s)'
+echo 'logic=proved (of wire)'
+echo 'rt: wire proved (2 s)'
+echo 'rt: lines proved (unchanged since it was last proved)'
+echo 'rt: fm_check proved (8 s)'
+mv $room/built target/bin/fm_check
+echo \"rt: fm_check ran as nobody, and wrote what its file 'stdout' has (0 s)\"
+echo 'rt: ok, 4 crates proved'"
 answers fm_check 'echo short 0'
 mv other/target/bin/fm_check built
-script tools/rt "[ \"\$*\" = 'check fm_check' ] && mv $room/built target/bin/fm_check"
+script tools/rt "$proves"
 try 0 check one.fms 250 A II 0 0 <<'SAYS'
 fm: building fm_check with rt check fm_check; this is done once and takes some minutes
+fm: 1 of 4 crates proved (ground)
+fm: 2 of 4 crates proved (wire)
+fm: 3 of 4 crates proved (lines)
+fm: 4 of 4 crates proved (fm_check)
 Nothing is short: channel 250 is acceptable for class A in zone II at 00-00-00N 000-00-00E.
 SAYS
+
+# The same on a terminal, where a line that is written over is shown here with its returns as < and its spaces as one.
+on_terminal() { # WORDS
+    env SHELL=/bin/sh script -q -e -c "PATH='$path' '$fm' $*" /dev/null >said 2>&1 </dev/null
+    ended=$?
+    got=$(tr '\r' '<' <said | sed 's/<$//; s/  */ /g; s/ $//')
+}
+if env SHELL=/bin/sh script -q -e -c true /dev/null >/dev/null 2>&1 </dev/null; then
+    mv other/target/bin/fm_check built
+    on_terminal check one.fms 250 A II 0 0
+    hold "a build on a terminal: status $ended" [ "$ended" -eq 0 ]
+    hold "a build on a terminal: $got" [ "$got" = "fm: building fm_check with rt check fm_check; this is done once and takes some minutes
+<fm: 0 of 4 crates proved <fm: 1 of 4 crates proved (ground) <fm: 2 of 4 crates proved (wire) <fm: 3 of 4 crates proved (lines) <fm: 4 of 4 crates proved (fm_check)
+Nothing is short: channel 250 is acceptable for class A in zone II at 00-00-00N 000-00-00E." ]
+    mv other/target/bin/fm_check built
+    script tools/rt 'echo "rt: ground proved (1 s)"; echo "rt: wire NOT PROVED (exit 1, 3 s)"; exit 1'
+    on_terminal check one.fms 250 A II 0 0
+    hold "a failed build on a terminal: status $ended" [ "$ended" -eq 3 ]
+    hold "a failed build on a terminal: $got" [ "$got" = "fm: building fm_check with rt check fm_check; this is done once and takes some minutes
+<fm: 0 of 4 crates proved <fm: 1 of 4 crates proved (ground)
+rt: ground proved (1 s)
+rt: wire NOT PROVED (exit 1, 3 s)
+fm: rt check fm_check did not prove and build target/bin/fm_check" ]
+    script tools/rt 'kill -s INT 0'
+    on_terminal check one.fms 250 A II 0 0
+    hold "an interrupted build: status $ended" [ "$ended" -eq 130 ]
+    hold "an interrupted build: a line of its own is left" [ "$(sed -n '$=' said) $(tail -c 1 said | od -An -tu1 | tr -d ' ')" = '2 10' ]
+    rm -f said
+    mv built other/target/bin/fm_check
+else
+    printf 'fm: no util-linux script at hand, builds on a terminal were not tested\n'
+fi
 try 0 check one.fms 250 A II 0 0 --raw <<'SAYS'
 short 0
 SAYS
@@ -596,6 +774,12 @@ answers fm_check 'echo refused 24 0'
 try 1 check one.fms 250 A II 0 0 <<'SAYS'
 fm: refused with number 24: the sites are more than 475 km apart, where the distance method of 73.208 does not hold.
 SAYS
+for line in 'echo hello' 'echo 476' 'echo -1' 'echo 1; echo 2' ':' 'echo refused 1 0' 'echo refused 20 0' 'echo refused 24'; do
+    answers fm_study "$line"
+    try 3 distance 0 0 0 0 <<'SAYS'
+fm: fm_study gave something that is no answer
+SAYS
+done
 answers fm_change 'printf FMS'
 try 3 withdraw one.fms folder/new.fms 7 <<'SAYS'
 fm: the new table could not be written whole, and folder/new.fms is not there: is the disk full?
@@ -652,6 +836,14 @@ sees '0 250 0 2 0 0 0 0 0 0 0 0' 250 A I-A 0 0
 sees '255 255 0 3 127 255 255 255 128 0 0 0' 65535 A II 2147483647 -2147483648
 sees '0 0 0 3 0 2 61 6 255 251 239 147' 0 A II 40-44-54N 073-59-09W
 sees '1 44 0 3 255 255 255 255 0 0 0 1' 300 A II 00-00-01S 000-00-01E
+script other/target/bin/fm_study "seen=\$(od -An -v -tu1 | tr -s ' \n' ' ')
+[ -n \"\$seen\" ] || { echo refused 1 0; exit; }
+printf '%s' \"\$seen\" >$room/seen
+echo 475"
+try 0 distance 40-44-54N 073-59-09W -1 2147483647 <<'SAYS'
+40-44-54N 073-59-09W and 00-00-01S 596523-14-07E are 475 km apart by 47 CFR 73.208.
+SAYS
+hold "fm distance: the bytes are $(cat seen)" [ "$(cat seen)" = ' 100 0 2 61 6 255 251 239 147 255 255 255 255 127 255 255 255 ' ]
 rm -f seen
 
 # ---- programs that do not run by themselves: the toolchain's loader, and its emulator on another machine

@@ -155,17 +155,17 @@ in-band s p e i h q =
     let b = ltb-true 220 (r .channel) (a .1) in
     (omega arith, fine-at s (count s) e i h .high)
 
-few-arranged : (s : List ℕ) (p : Place) (c : ℕ) → Accepted s → length (rowsFor s (sited p) c c) ≤ 237
+few-arranged : (s : List ℕ) (p : Place) (c : ℕ) → Accepted s → length (rowsFor s (sited p) c c) ≤ 3 * (channelCount - 1)
 unfolding studied scene
 few-arranged s p c e =
     let ss = keep everyRecord (stations s) in
     omega (arith, length-flat (arrangements tableA (sited p) ss c c), ap length (one-channel tableA (sited p) ss c ∙ arranged-at tableA everyRecord s e (sited p) c), few-rows (sceneOf s p) c (in-band s p e))
 
-pub arrange-fits : (channel : ℕ) (input vs : List ℕ) → arrangeInput channel input ≡ grant vs → length vs ≤ 237
+pub arrange-fits : (channel : ℕ) (input vs : List ℕ) → arrangeInput channel channel input ≡ grant vs → length vs ≤ 3 * (channelCount - 1)
 unfolding arrangeInput arrangedFor
 arrange-fits channel input vs e =
     let s = drop 10 input in
-    let q = wantedOf channel input in
+    let q = wantedOf channel channel input in
     let v = askedFault channel channel (q .class) (q .zone) (q .latitude) (q .longitude) in
     let w = granted-way 10 input (judged s) v (rowsFor s (asked′ q) channel channel) vs e in
     omega (arith, few-arranged s (placeAsked q) channel (accepted s (w .1)), ap length (w .2))

@@ -1,3 +1,4 @@
 pub mod Inputs
 pub mod Fitting
 pub mod OneByOne
+pub mod Longer

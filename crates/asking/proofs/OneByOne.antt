@@ -1,56 +1,59 @@
--- The new channels from 221 to 300, asked for one at a time: their rows are those of the whole range, and what is refused
--- for one is refused for all. Assumes nothing.
-use mathlib.Core.Path.{_≡_, sym, ap, _∙_}
+-- The new channels, asked for in one range or another: what is refused for one is refused for all, and what is granted are the
+-- rows of each. Assumes nothing.
+use mathlib.Core.Path.{_≡_, refl}
 use mathlib.Core.Bool.{Bool, true, false, cond}
 use mathlib.Core.List.{List}
-use Prim.Native.Nat.{ℕ, _≤_}
+use Prim.Native.Nat.{ℕ}
 use native.Mathlib.Omega.{arith}
 use lib.Dec.{ltb}
 use lib.IntN.{ℤ}
 use lib.ListN.{length, drop}
 use borrow.Author.Tests.{le-ltb}
 use Rattle.ground.specs.Guard.{given}
-use Rattle.ground.specs.Lists.{each}
-use Rattle.ground.specs.Rows.{flat}
-use Rattle.ground.proofs.Spans.{each-cong}
-use Rattle.ground.proofs.Writes.{flat-each}
-use Rattle.refusals.specs.declared.Refusal.{Refusal}
-use Rattle.spacing.specs.Pair.{Assignment}
-use Rattle.part73.specs.Channels.{lowest, highest, channelCount, newChannels}
+use Rattle.part73.specs.Channels.{lowest, highest}
 use Rattle.stations.specs.Image.{judged}
-use Rattle.stations.specs.declared.Station.{Station}
 use Rattle.stations.specs.declared.Judged.{Judged}
 use Rattle.stations.specs.declared.Judged.the-variants.{Table, Refused as Refused′}
 use Rattle.stations.specs.declared.Verdict.{Verdict}
 use Rattle.stations.specs.declared.Verdict.the-variants.{Sound, Faulty}
-use Rattle.desk.specs.Answers.{grant, deny, onTable, onAsked}
+use Rattle.survey.specs.Marks.{Asked}
+use Rattle.survey.specs.declared.Channels.{Channels}
+use Rattle.desk.specs.Answers.{Outcome, grant, deny, onTable, onAsked}
 use Rattle.desk.specs.Asked.{placeFault, askedFault}
-use Rattle.arrangements.specs.Arrange.{asked, arranged, arrangements, rowsFor, arrangedFor}
+use Rattle.arrangements.specs.Arrange.{asked, rowsFor, arrangedFor}
 use Rattle.asking.specs.Asking.{endsEarly, past, wantedOf, arrangeInput}
-use Rattle.asking.proofs.Fitting.{never, one-channel}
 
-pub one-at-a-time : (km : ℕ → ℕ → ℕ → ℕ) (new : ℕ → Assignment) (ss : List Station) → flat (arrangements km new ss lowest highest) ≡ each (λ c. flat (arrangements km new ss c c)) newChannels
-unfolding arrangements
-one-at-a-time km new ss = flat-each (arranged km new ss) newChannels ∙ each-cong _ _ channelCount lowest (λ c lo hi. sym (ap flat (one-channel km new ss c)))
-
--- a channel in range is never what is refused
-asked-in : (c class zone : ℕ) (lat lon : ℤ) → lowest ≤ c → c ≤ highest → askedFault c c class zone lat lon ≡ placeFault class zone lat lon
+-- new channels that may be asked for are never what is refused
+asked-in : {c : Channels} → Asked c → (class zone : ℕ) (lat lon : ℤ) → askedFault (c .first) (c .last) class zone lat lon ≡ placeFault class zone lat lon
 unfolding askedFault given
-asked-in c class zone lat lon lo hi = rw (le-ltb c lowest lo, le-ltb highest c hi, le-ltb c c (omega arith))
+asked-in {c} r class zone lat lon =
+    rw (
+      le-ltb (c .first) lowest (r .low),
+      le-ltb highest (c .first) (omega (arith, r .some, r .high)),
+      le-ltb (c .last) lowest (omega (arith, r .low, r .some)),
+      le-ltb highest (c .last) (r .high),
+      le-ltb (c .last) (c .first) (r .some),
+    )
 
--- a refusal comes before the rows, and does not depend on them
-refused-by : (b : Bool) (j : Judged) (v : Verdict) (xs ys : List ℕ) (f : Refusal) → cond b endsEarly (onTable j (onAsked v (grant xs))) ≡ deny f → cond b endsEarly (onTable j (onAsked v (grant ys))) ≡ deny f
-refused-by true j v xs ys f e = e
-refused-by false (Refused′ g) v xs ys f e = e
-refused-by false (Table n) (Faulty g) xs ys f e = e
-refused-by false (Table n) Sound xs ys f e = absurd (never f xs (sym e))
+-- the rows of a range
+unfoldable pub rowsOf : List ℕ → ℕ → ℕ → List ℕ
+rowsOf input first last = rowsFor (drop 10 input) (asked (wantedOf first last input)) first last
 
-pub alike : (c d : ℕ) (input : List ℕ) (f : Refusal) → lowest ≤ c → c ≤ highest → lowest ≤ d → d ≤ highest → arrangeInput c input ≡ deny f → arrangeInput d input ≡ deny f
-unfolding arrangeInput arrangedFor past given
-alike c d input f lo hi lo′ hi′ e =
+-- an outcome with other rows
+abbrev pub regrant : List ℕ → Outcome → Outcome
+regrant vs (grant ws) = grant vs
+regrant vs (deny f) = deny f
+
+by-stage : (b : Bool) (j : Judged) (v : Verdict) (xs ys : List ℕ) → cond b endsEarly (onTable j (onAsked v (grant ys))) ≡ regrant ys (cond b endsEarly (onTable j (onAsked v (grant xs))))
+by-stage true j v xs ys = refl
+by-stage false (Refused′ f) v xs ys = refl
+by-stage false (Table n) (Faulty f) xs ys = refl
+by-stage false (Table n) Sound xs ys = refl
+
+pub alike : {c d : Channels} → Asked c → Asked d → (input : List ℕ) → arrangeInput (d .first) (d .last) input ≡ regrant (rowsOf input (d .first) (d .last)) (arrangeInput (c .first) (c .last) input)
+unfolding arrangeInput arrangedFor past given rowsOf
+alike {c} {d} r q input =
     let s = drop 10 input in
-    let q = wantedOf c input in
-    let rows : ℕ → List ℕ = λ x. rowsFor s (asked q) x x in
-    rw (asked-in d (q .class) (q .zone) (q .latitude) (q .longitude) lo′ hi′)
-    (refused-by (ltb (length input) 10) (judged s) (placeFault (q .class) (q .zone) (q .latitude) (q .longitude)) (rows c) (rows d) f
-    (rw (asked-in c (q .class) (q .zone) (q .latitude) (q .longitude) lo hi) at e))
+    let w = wantedOf (c .first) (c .last) input in
+    rw (asked-in r (w .class) (w .zone) (w .latitude) (w .longitude), asked-in q (w .class) (w .zone) (w .latitude) (w .longitude))
+    (by-stage (ltb (length input) 10) (judged s) (placeFault (w .class) (w .zone) (w .latitude) (w .longitude)) (rowsFor s (asked w) (c .first) (c .last)) (rowsFor s (asked w) (d .first) (d .last)))

@@ -1,5 +1,6 @@
 -- 01, The programs: the question that a program's whole input puts. First what is proposed, big-endian, then the table.
 -- Assumes nothing.
+use mathlib.Core.Bool.{not}
 use mathlib.Core.List.{List}
 use Prim.Native.Nat.{ℕ}
 use lib.Dec.{ltb, eqb}
@@ -11,6 +12,9 @@ use Rattle.ground.specs.Guard.{given}
 use Rattle.wire.specs.Be.{be}
 use Rattle.refusals.specs.Faults.{refusal, UnderEightBytes}
 use Rattle.desk.specs.Answers.{Outcome, deny}
+use Rattle.desk.specs.Questions.{distanceOf}
+use Rattle.desk.specs.declared.Answer.{Answer}
+use Rattle.desk.specs.declared.Answer.the-variants.{Refused}
 use Rattle.checks.specs.declared.Proposal.{Proposal}
 use Rattle.checks.specs.Check.{checkedFor}
 use Rattle.arrangements.specs.declared.Wanted.{Wanted}
@@ -42,13 +46,13 @@ checkInput input = past 12 input (checkedFor (drop 12 input) (proposalOf input))
 
 -- ---- Arrange
 
--- the same without the channel; one new channel is asked for at a time
-abbrev pub wantedOf : ℕ → List ℕ → Wanted
-wantedOf channel s =
-    record { first = channel; last = channel; class = be 1 s 0; zone = be 1 s 1; latitude = signed s 2; longitude = signed s 6 }
+-- the same without the channel; the new channels that are asked for are not in the input
+abbrev pub wantedOf : ℕ → ℕ → List ℕ → Wanted
+wantedOf first last s =
+    record { first = first; last = last; class = be 1 s 0; zone = be 1 s 1; latitude = signed s 2; longitude = signed s 6 }
 
-unfoldable pub arrangeInput : ℕ → List ℕ → Outcome
-arrangeInput channel input = past 10 input (arrangedFor (drop 10 input) (wantedOf channel input))
+unfoldable pub arrangeInput : ℕ → ℕ → List ℕ → Outcome
+arrangeInput first last input = past 10 input (arrangedFor (drop 10 input) (wantedOf first last input))
 
 -- ---- Add, Withdraw, Move
 
@@ -75,3 +79,13 @@ changeInput input =
     (given (eqb (be 1 input 0) 119) (withdrawInput input)
     (given (eqb (be 1 input 0) 109) (moveInput input)
     endsEarly))
+
+-- ---- a study
+
+-- the letter `d`, and two sites: latitude 32, longitude 32; any other letter, or input of another length, is refused as input
+-- that ends early
+unfoldable pub distanceInput : List ℕ → Answer
+distanceInput input =
+    given (not (eqb (length input) 17)) (Refused (refusal UnderEightBytes))
+    (given (not (eqb (be 1 input 0) 100)) (Refused (refusal UnderEightBytes))
+    (distanceOf (signed input 1) (signed input 5) (signed input 9) (signed input 13)))

@@ -1,14 +1,15 @@
 // From the whole input of a program to its question: what is proposed stands first, the table after it.
 ghost use mathlib.Core.Path.{_≡_};
 ghost use Rattle.desk.specs.Answers.{Answered};
-ghost use Rattle.asking.specs.Asking.{checkInput, arrangeInput, addInput, withdrawInput, moveInput, changeInput, proposalOf, wantedOf, newcomerOf};
+ghost use Rattle.asking.specs.Asking.{checkInput, arrangeInput, addInput, withdrawInput, moveInput, changeInput, distanceInput, signed, proposalOf, wantedOf, newcomerOf};
 ghost use Rattle.wire.specs.Be.{be};
 ghost use lib.ListN.{length};
-ghost use Prim.Native.Nat.{_≤_, _<_};
+ghost use Prim.Native.Nat.{_+_, _≤_, _<_};
 use arrangements::Wanted;
 use changes::Newcomer;
 use checks::Proposal;
 use desk::Answer;
+use desk::Site;
 
 // The letters that name a change: `a`, `w`, `m`.
 const ADD: u32 = 97;
@@ -16,6 +17,9 @@ const ADD: u32 = 97;
 const WITHDRAW: u32 = 119;
 
 const MOVE: u32 = 109;
+
+// The letter that asks for a distance: `d`.
+const DISTANCE: u32 = 100;
 
 // The answer to input that ends before the table, or that names no change.
 fn ends_early() -> Answer
@@ -54,7 +58,7 @@ fn proposal(input: &[u8]) -> Proposal
 // What is wanted on one new channel: class, zone, latitude, longitude.
 fn wanted(input: &[u8], channel: u32) -> Wanted
     requires { ⌜ 10 ≤ length (now input) ⌝ }
-    ensures { λ r. ⌜ r ≡ wantedOf channel (now (input .entry)) ⌝ }
+    ensures { λ r. ⌜ r ≡ wantedOf channel channel (now (input .entry)) ⌝ }
 {
     let class = get8(input, 0);
     let zone = get8(input, 1);
@@ -91,6 +95,19 @@ fn newcomer(input: &[u8]) -> Newcomer
     }
 }
 
+// The site at a place: latitude, longitude.
+fn site(input: &[u8], at: usize) -> Site
+    requires { ⌜ (at + 8 ≤ length (now input)) × (at ≤ 9) ⌝ }
+    ensures { λ r. ⌜ r ≡ record { latitude = signed (now (input .entry)) at; longitude = signed (now (input .entry)) (at + 4) } ⌝ }
+{
+    let latitude = wire::get_i32(input, at);
+    let longitude = wire::get_i32(input, at + 4);
+    Site {
+        latitude,
+        longitude,
+    }
+}
+
 // Check: 12 bytes, and the table.
 pub fn asked_check(input: &[u8], rows: &mut [u32]) -> Answer
     ensures { λ r. ⌜ Answered (checkInput (now (input .entry))) (now (rows .entry)) (now (rows .exit)) r ⌝ }
@@ -104,7 +121,7 @@ pub fn asked_check(input: &[u8], rows: &mut [u32]) -> Answer
 
 // Arrange, for one new channel: 10 bytes, and the table.
 pub fn asked_arrange(input: &[u8], channel: u32, rows: &mut [u32]) -> Answer
-    ensures { λ r. ⌜ Answered (arrangeInput channel (now (input .entry))) (now (rows .entry)) (now (rows .exit)) r ⌝ }
+    ensures { λ r. ⌜ Answered (arrangeInput channel channel (now (input .entry))) (now (rows .entry)) (now (rows .exit)) r ⌝ }
 {
     if input.len() < 10 {
         return ends_early();
@@ -165,4 +182,20 @@ pub fn asked_change(input: &[u8], image: &mut [u8]) -> Answer
         return asked_move(input, image);
     }
     ends_early()
+}
+
+// The distance between two sites: the letter and 16 bytes, and nothing after them.
+pub fn asked_distance(input: &[u8]) -> Answer
+    ensures { λ r. ⌜ r ≡ distanceInput (now (input .entry)) ⌝ }
+{
+    if input.len() != 17 {
+        return ends_early();
+    }
+    let letter = get8(input, 0);
+    if letter != DISTANCE {
+        return ends_early();
+    }
+    let here = site(input, 1);
+    let there = site(input, 9);
+    desk::distance(here, there)
 }

@@ -18,14 +18,8 @@ use Rattle.stations.specs.declared.Verdict.the-variants.{Sound, Faulty}
 use Rattle.stations.proofs.Ids.{with-found}
 use Rattle.desk.specs.Asked.{askedFault}
 use Rattle.finding.specs.Conflicts.{conflicts}
-use Rattle.changes.specs.Changes.{Change, add, withdraw, move, Decision, allow, refuse, onVerdict, entered, decide}
+use Rattle.changes.specs.Changes.{add, withdraw, move, Decision, allow, refuse, onVerdict, entered, decide}
 use Rattle.changes.specs.declared.Newcomer.{Newcomer}
-
--- the id that a change names
-abbrev pub named : Change → ℕ
-named (add w) = w .id
-named (withdraw id) = id
-named (move id channel) = id
 
 pub denied : (f : Refusal) (rs : List Station) → refuse f ≡ allow rs → ⊥
 denied f rs e = let z : _≡_ {A = ℕ} 0 1 = cc in omega arith

@@ -1,20 +1,17 @@
--- A granted list is valid: its image is accepted, and has its stations. Assumes nothing.
+-- A granted list may stand in a table. Assumes nothing.
 use mathlib.Core.Path.{_≡_}
 use mathlib.Core.List.{List}
 use Prim.Native.Nat.{ℕ, _^_, _<_}
 use native.Mathlib.Omega.{arith}
-use lib.ListN.{length}
-use Rattle.stations.specs.Image.{stations, judged}
 use Rattle.stations.specs.Version.{top, versionOf}
-use Rattle.stations.specs.Encode.{encode}
 use Rattle.stations.specs.declared.Station.{Station}
-use Rattle.stations.specs.declared.Judged.the-variants.{Table}
 use Rattle.stations.proofs.Fine.{Fine}
-use Rattle.stations.proofs.Parts.{Valid, valid-image, valid-insert, valid-without, valid-rechannel}
+use Rattle.stations.proofs.Parts.{Valid, valid-insert, valid-without, valid-rechannel}
 use Rattle.desk.proofs.Asked.{fair}
 use Rattle.changes.specs.Changes.{Change, add, withdraw, move, allow, entered, decide}
+use Rattle.changes.specs.Meaning.{named}
 use Rattle.changes.specs.declared.Newcomer.{Newcomer}
-use Rattle.changes.proofs.Grants.{named, AddPasses, added, withdrawn, moved}
+use Rattle.changes.proofs.Grants.{AddPasses, added, withdrawn, moved}
 
 fine-entered : (t : ℕ) (ss : List Station) (w : Newcomer) → AddPasses ss w → Fine t (entered w)
 fine-entered t ss w a =
@@ -32,7 +29,3 @@ granted-valid ss (withdraw id) rs h k e = rw (withdrawn ss id rs e .is) (valid-w
 granted-valid ss (move id channel) rs h k e =
     let a = moved ss id channel rs e in
     rw (a .is) (valid-rechannel id channel ss (omega (arith, a .passes .low)) (a .passes .high) k)
-
--- so the written image is accepted, and has the granted list
-pub granted-image : (ss : List Station) (c : Change) (rs : List Station) → named c < 2 ^ 32 → Valid ss → decide ss c ≡ allow rs → (judged (encode rs) ≡ Table (length rs)) × (stations (encode rs) ≡ rs)
-granted-image ss c rs h k e = valid-image rs (granted-valid ss c rs h k e)

@@ -7,7 +7,7 @@ use Prim.Native.Nat.{ℕ}
 use Rattle.ground.specs.Lists.{keep}
 use Rattle.ground.specs.Rows.{flat}
 use Rattle.part73.specs.TableA.{tableA}
-use Rattle.wire.proofs.Width.{Bytes}
+use Rattle.wire.specs.Be.{Bytes}
 use Rattle.stations.specs.Image.{stations, judged}
 use Rattle.stations.specs.Encode.{encode}
 use Rattle.stations.specs.Lists.{hasId, without}
@@ -16,7 +16,7 @@ use Rattle.stations.specs.declared.Judged.the-variants.{Table}
 use Rattle.stations.specs.declared.Verdict.the-variants.{Sound}
 use Rattle.stations.proofs.Parts.{part-image}
 use Rattle.survey.proofs.Studied.{studied-all}
-use Rattle.desk.specs.Answers.{Outcome, grant}
+use Rattle.desk.specs.Answers.{grant}
 use Rattle.desk.specs.Asked.{askedFault}
 use Rattle.checks.specs.Check.{asked, shortRows, checkedFor}
 use Rattle.checks.specs.declared.Proposal.{Proposal}

@@ -8,7 +8,7 @@ use native.Mathlib.Omega.{arith}
 use lib.ListN.{length, getD, take, drop, length-take, length-map, drop-of-length-le}
 use lib.Seq.{drop-cons, getD-take, length-take-le}
 use Rattle.ground.specs.Lists.{_∈_, span, keep, each}
-use Rattle.ground.specs.Rows.{Row, row, flat}
+use Rattle.ground.specs.Rows.{Row, flat}
 use Rattle.ground.proofs.Order.{in-keep, in-span}
 use Rattle.ground.proofs.Keeps.{map-map}
 use Rattle.distance.specs.Distance.{S, D}

@@ -16,7 +16,7 @@ use Rattle.stations.specs.declared.Judged.{Judged}
 use Rattle.stations.specs.declared.Judged.the-variants.{Table, Refused as Refused′}
 use Rattle.stations.specs.declared.Verdict.{Verdict}
 use Rattle.stations.specs.declared.Verdict.the-variants.{Sound, Faulty}
-use Rattle.desk.specs.Answers.{Outcome, grant, deny, onTable, onAsked, answer, Answered, leave}
+use Rattle.desk.specs.Answers.{Outcome, grant, deny, onTable, onAsked, Answered, leave}
 use Rattle.desk.specs.declared.Answer.{Answer}
 use Rattle.desk.specs.declared.Answer.the-variants.{Granted, Refused}
 

@@ -1,3 +1,4 @@
 pub mod Answers
 pub mod Asked
 pub mod Questions
+pub mod Points

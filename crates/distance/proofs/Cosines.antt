@@ -4,7 +4,7 @@ use Prim.Native.Nat.{ℕ, _+_, _-_, _*_, _/_, _≤_}
 use native.Mathlib.Nat.{le-trans, mul-le-mul}
 use native.Mathlib.Omega.{arith}
 use lib.IntN.{ℤ, pos, natAbs, _+ℤ_, _-ℤ_, _*ℤ_}
-use Rattle.distance.specs.Distance.{_÷_, E, xOf, series, c1, c2, c3, c4, c5, P, Q}
+use Rattle.distance.specs.Distance.{_÷_, E, xOf, c1, c2, c3, c4, c5, P, Q}
 use Rattle.ground.proofs.Signed.{abs-add, abs-sub, abs-mul, abs-quot, square-pos, gap, Near, near, near-add, near-sub}
 use Rattle.distance.proofs.Series.{series-is, series-size, sum-low}
 

@@ -5,7 +5,7 @@ use native.Mathlib.Nat.{le-trans, mul-le-mul, mul-le-mul-left}
 use native.Mathlib.Omega.{arith}
 use lib.IntN.{ℤ, pos, natAbs, _+ℤ_, _-ℤ_, _*ℤ_, -ℤ-+ℤ-cancel}
 use Rattle.ground.proofs.Signed.{abs-add, abs-mul, abs-quot, abs-sub-comm}
-use Rattle.distance.specs.Distance.{_÷_, E, hOf, xOf, latGap, lonGap, c1, Q, EW, S}
+use Rattle.distance.specs.Distance.{_÷_, E, hOf, xOf, latGap, lonGap, Q, EW, S}
 use Rattle.distance.specs.Bounds.{LeastScale, MostHalves}
 use Rattle.distance.proofs.Cosines.{c1-low, Q-near}
 

@@ -1,4 +1,4 @@
 // Arrange, on standard input and output: the arrangements for the new channels 221 to 300.
 fn main() {
-    programs::arrange(0);
+    programs::run(programs::Program::Arrange, 0);
 }

@@ -1,4 +1,4 @@
 // Add, Withdraw or Move, on standard input and output: the new image.
 fn main() {
-    programs::change(0);
+    programs::run(programs::Program::Change, 0);
 }

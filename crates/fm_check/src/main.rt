@@ -1,4 +1,4 @@
 // Check, on standard input and output: the stations that a proposal is short to.
 fn main() {
-    programs::check(0);
+    programs::run(programs::Program::Check, 0);
 }

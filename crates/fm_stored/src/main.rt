@@ -18,13 +18,16 @@ fn begins(name: &[u8], word: &[u8]) -> bool {
 // The program that a name begins with, on the descriptor of its input.
 fn run(name: &[u8], fd: i32) {
     if begins(name, b"check-") {
-        programs::check(fd);
+        programs::run(programs::Program::Check, fd);
     }
     if begins(name, b"arrange-") {
-        programs::arrange(fd);
+        programs::run(programs::Program::Arrange, fd);
     }
     if begins(name, b"change-") {
-        programs::change(fd);
+        programs::run(programs::Program::Change, fd);
+    }
+    if begins(name, b"study-") {
+        programs::run(programs::Program::Study, fd);
     }
 }
 

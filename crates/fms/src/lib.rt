@@ -1,9 +1,9 @@
 // The questions for other languages: what include/fms.h declares.
 ghost use mathlib.Core.Path.{_≡_};
-ghost use Prim.Native.Nat.{_+_, _*_};
+ghost use Prim.Native.Nat.{_/_, _%_};
 ghost use Rattle.desk.specs.Questions.{readOf, distanceOf};
 ghost use Rattle.changes.specs.Changes.{add as adding, withdraw as withdrawing, move as moving, changedFor};
-ghost use Rattle.fms.specs.Packed.{packed, Packed, newcomer as asked, proposal, wanted};
+ghost use Rattle.fms.specs.Packed.{Says, Packed, newcomer as asked, proposal, wanted};
 ghost use Rattle.checks.specs.Check.{checkedFor};
 ghost use Rattle.arrangements.specs.Arrange.{arrangedFor};
 use arrangements::Wanted;
@@ -13,23 +13,23 @@ use desk::Answer;
 use desk::Site;
 
 fn pack(a: Answer) -> u64
-    ensures { λ r. ⌜ r ≡ packed a ⌝ }
+    ensures { λ r. ⌜ Says a r ⌝ }
 {
     match a {
-        Answer::Granted(n) => n as u64,
+        Answer::Granted(n) => word(0, n),
         Answer::Refused(f) => word(f.number, f.extra),
     }
 }
 
-fn word(number: u32, extra: u32) -> u64
-    ensures { λ r. ⌜ r ≡ number * 4294967296 + extra ⌝ }
+fn word(number: u32, value: u32) -> u64
+    ensures { λ r. ⌜ (r / 4294967296 ≡ number) × (r % 4294967296 ≡ value) ⌝ }
 {
-    (number as u64) * 4_294_967_296 + (extra as u64)
+    (number as u64) * 4_294_967_296 + (value as u64)
 }
 
 #[no_mangle]
 pub extern "C" fn fms_read(table: &[u8]) -> u64
-    ensures { λ r. ⌜ r ≡ packed (readOf (now (table .entry))) ⌝ }
+    ensures { λ r. ⌜ Says (readOf (now (table .entry))) r ⌝ }
 {
     let a = desk::read(table);
     pack(a)
@@ -37,7 +37,7 @@ pub extern "C" fn fms_read(table: &[u8]) -> u64
 
 #[no_mangle]
 pub extern "C" fn fms_distance(lat1: i32, lon1: i32, lat2: i32, lon2: i32) -> u64
-    ensures { λ r. ⌜ r ≡ packed (distanceOf lat1 lon1 lat2 lon2) ⌝ }
+    ensures { λ r. ⌜ Says (distanceOf lat1 lon1 lat2 lon2) r ⌝ }
 {
     let a = Site {
         latitude: lat1,

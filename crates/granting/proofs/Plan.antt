@@ -8,7 +8,7 @@ use lib.ListN.{length, take, drop, length-append, length-drop}
 use lib.Seq.{sets, length-take-le}
 use Rattle.ground.specs.Lists.{each}
 use Rattle.ground.proofs.Spans.{each-append}
-use Rattle.wire.proofs.Width.{Bytes}
+use Rattle.wire.specs.Be.{Bytes}
 use Rattle.refusals.specs.Faults.{refusal, DoesNotFit}
 use Rattle.stations.specs.Version.{versionOf, Calls}
 use Rattle.stations.specs.Image.{stationAt, stations, count}

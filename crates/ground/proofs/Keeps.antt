@@ -103,11 +103,6 @@ module _ {A : Type 0} where
   every-cong p q [] h = refl
   every-cong p q (x ∷ l) h = rw (h x (List·Memᴰ·head refl), every-cong p q l (λ y m. h y (List·Memᴰ·tail m)))
 
-  pub each-in-cong : {B : Type 0} (f g : A → List B) (l : List A) → ((x : A) → x ∈ l → f x ≡ g x) → each f l ≡ each g l
-  unfolding each
-  each-in-cong f g [] h = refl
-  each-in-cong f g (x ∷ l) h = rw (h x (List·Memᴰ·head refl), each-in-cong f g l (λ y m. h y (List·Memᴰ·tail m)))
-
   pub every-in : (p : A → Bool) (l : List A) → (every p l ≡ true) ↔ ((x : A) → x ∈ l → p x ≡ true)
   unfolding every
   every-in p [] = (λ e x m. absurd (List·Memᴰ·not-nil m), λ h. refl)

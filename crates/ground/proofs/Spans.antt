@@ -29,6 +29,17 @@ span-done i b h =
     let e : b - i ≡ 0 = omega arith in
     ap (span i) e
 
+pub span-append : (m n a : ℕ) → span a (m + n) ≡ span a m ++ span (a + m) n
+unfolding span
+span-append zero n a =
+    let e : 0 + n ≡ n = omega arith in
+    let k : a ≡ a + 0 = omega arith in
+    ap (span a) e ∙ ap (λ (j : ℕ). span j n) k
+span-append (suc m) n a =
+    let d : suc m + n ≡ suc (m + n) = omega arith in
+    let e : suc a + m ≡ a + suc m = omega arith in
+    ap (span a) d ∙ ap (λ (l : List ℕ). a ∷ l) (span-append m n (suc a) ∙ ap (λ (k : ℕ). span (suc a) m ++ span k n) e)
+
 -- ---- each
 
 pub each-cong : {A : Type 0} (f g : ℕ → List A) (n a : ℕ) → ((k : ℕ) → a ≤ k → k < a + n → f k ≡ g k) → each f (span a n) ≡ each g (span a n)
@@ -49,6 +60,12 @@ pub each-append : {A B : Type 0} (f : A → List B) (xs ys : List A) → each f 
 unfolding each
 each-append f [] ys = refl
 each-append f (x ∷ xs) ys = rw (each-append f xs ys, append-assoc)
+
+-- one after the other
+pub each-each : {A B C : Type 0} (f : A → List B) (g : B → List C) (l : List A) → each g (each f l) ≡ each (λ x. each g (f x)) l
+unfolding each
+each-each f g [] = refl
+each-each f g (x ∷ l) = each-append g (f x) (each f l) ∙ ap (λ (k : List _). each g (f x) ++ k) (each-each f g l)
 
 -- where f gives something at i alone
 pub each-single : {A : Type 0} (f : ℕ → List A) (n a i : ℕ) → a ≤ i → i < a + n → ((k : ℕ) → a ≤ k → k < a + n → (k ≡ i → ⊥) → f k ≡ []) → each f (span a n) ≡ f i

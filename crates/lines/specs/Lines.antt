@@ -38,6 +38,6 @@ shortLine k = 115 ∷ 104 ∷ 111 ∷ 114 ∷ 116 ∷ 32 ∷ ended k
 unfoldable pub refusedLine : Refusal → List ℕ
 refusedLine f = 114 ∷ 101 ∷ 102 ∷ 117 ∷ 115 ∷ 101 ∷ 100 ∷ 32 ∷ (spaced (f .number) ++ ended (f .extra))
 
--- the line of the row at a position, of numbers that come in threes
+-- inside: the line of the row at a position, of numbers that come in threes
 unfoldable pub lineAt : List ℕ → ℕ → List ℕ
 lineAt vs j = rowLine (getD vs (3 * j) 0) (getD vs (3 * j + 1) 0) (getD vs (3 * j + 2) 0)

@@ -1,22 +1,13 @@
-// Lines of decimal numbers, put into a buffer of bytes and written many at a time.
+// Lines of decimal numbers, put into a buffer of bytes.
 ghost use Prim.Native.Nat.{_+_, _-_, _*_, _≤_};
 ghost use lib.ListN.{length};
 ghost use Rattle.ground.specs.Lists.{span, each};
 ghost use Rattle.ground.specs.Writing.{Wrote};
-ghost use Rattle.lines.specs.Lines.{numberThen, rowLine, shortLine, refusedLine, lineAt};
+ghost use Rattle.lines.specs.Lines.{numberThen, ended, rowLine, shortLine, refusedLine, lineAt};
 use refusals::Refusal;
 
 // The longest line: three numbers of ten digits, and the byte after each.
 pub const LINE: usize = 33;
-
-// Standard output.
-const OUT: i32 = 1;
-
-// A place in the text, and whether all that had to be written was written.
-pub struct Place {
-    pub at: usize,
-    pub whole: bool,
-}
 
 // A word; answers the place after it.
 fn put_word(text: &mut [u8], at: usize, word: &[u8]) -> usize
@@ -39,6 +30,15 @@ fn put_number(text: &mut [u8], at: usize, n: u32, byte: u8) -> usize
     let next = put_word(text, at, &digits[..count]);
     text[next] = byte;
     next + 1
+}
+
+// A line of one number.
+pub fn put_single(text: &mut [u8], at: usize, n: u32) -> usize
+    requires { ⌜ at + 33 ≤ length (now text) ⌝ }
+    ensures { λ r. ⌜ Wrote (ended n) (now (text .entry)) at (now (text .exit)) r ⌝ }
+    ensures { λ r. ⌜ r ≤ at + 33 ⌝ }
+{
+    put_number(text, at, n, b'\n')
 }
 
 // A line of three numbers.
@@ -87,23 +87,4 @@ pub fn put_refusal(text: &mut [u8], at: usize, refusal: Refusal) -> usize
     let number = put_word(text, at, b"refused ");
     let extra = put_number(text, number, refusal.number, b' ');
     put_number(text, extra, refusal.extra, b'\n')
-}
-
-// A place with room for so many bytes after it: where too few are left, what stands in the text is written.
-pub fn room(text: &[u8], at: usize, need: usize) -> Place
-    requires { ⌜ (at ≤ length (now text)) × (need ≤ length (now text)) ⌝ }
-    ensures { λ r. ⌜ r .at + need ≤ length (now (text .entry)) ⌝ }
-{
-    if need <= text.len() - at {
-        return Place { at, whole: true };
-    }
-    let whole = io::write_all(OUT, &text[..at]);
-    Place { at: 0, whole }
-}
-
-// Writes the text up to a place.
-pub fn write(text: &[u8], at: usize) -> bool
-    requires { ⌜ at ≤ length (now text) ⌝ }
-{
-    io::write_all(OUT, &text[..at])
 }

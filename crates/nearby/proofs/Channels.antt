@@ -8,9 +8,8 @@ use native.Mathlib.Omega.{arith}
 use native.Mathlib.Decide.{ℕ-discrete, decLt}
 use lib.ListN.{length, getD, set, length-set}
 use lib.Seq.{getD-set-same, getD-set-other}
-use Rattle.part73.specs.Columns.{gap, none}
+use Rattle.part73.specs.Columns.{gap}
 use Rattle.part73.proofs.Facts.{column-none}
-use Rattle.spacing.specs.Pair.{columnFor}
 use Rattle.spacing.proofs.Rule.{for-open, open-high}
 use Rattle.nearby.specs.Positions.{Asked, Free, Held}
 

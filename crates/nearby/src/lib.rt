@@ -1,5 +1,4 @@
 // The records that a station on a channel, of a class at a site, is short to: one after the other, and their positions.
-ghost use mathlib.Core.Path.{_≡_};
 ghost use Rattle.part73.specs.TableA.{tableA};
 ghost use Rattle.spacing.specs.Pair.{sited};
 ghost use Rattle.survey.specs.Ways.{everyRecord};

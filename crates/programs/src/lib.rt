@@ -1,98 +1,136 @@
-// The programs as functions on the descriptor that they read; they write to standard output.
-ghost use Prim.Native.Nat.{_+_, _*_, _≤_};
+// The programs: each tells all that it prints of its input.
+ghost use mathlib.Core.Path.{_≡_};
+ghost use Prim.Native.Nat.{_+_, _-_, _*_, _≤_};
 ghost use lib.ListN.{length};
-ghost use Rattle.stations.specs.Version.{limit};
+ghost use Rattle.ground.specs.Writing.{Wrote};
+ghost use Rattle.part73.specs.Channels.{channelCount};
+ghost use Rattle.asking.specs.Asking.{arrangeInput};
+ghost use Rattle.streams.specs.Tells.{Tells};
+ghost use Rattle.programs.specs.OneChannel.{channelText, isDenied};
+ghost use Rattle.programs.specs.Printed.{printedCheck, printedArrange, printedChange, printedStudy, printedBy};
+ghost use Rattle.programs.specs.Ran.{Ran};
 use asking::asked_arrange;
 use asking::asked_change;
 use asking::asked_check;
+use asking::asked_distance;
 use lines::LINE;
-use lines::room;
-use lines::write;
+use part73::CHANNEL_COUNT;
 use part73::HIGHEST_ASKED;
 use part73::LOWEST_ASKED;
+use streams::hand;
+use streams::room;
 use telling::Channel;
-use telling::Told;
 use telling::put_answer;
 use telling::tell_change;
 use telling::tell_check;
+use telling::tell_distance;
 
-// The most rows for one new channel: one station may go to 79 others.
-const MOVES: usize = 79;
+// What a program asks.
+pub enum Program {
+    Check,
+    Arrange,
+    Change,
+    Study,
+}
 
-// The numbers of all rows of a Check, and the bytes of the longest image.
+// The most rows for one new channel: one station may go to all channels but its own.
+const MOVES: usize = CHANNEL_COUNT - 1;
+
+// The numbers of these rows, of all rows of a Check, and the bytes of the longest image.
+const ROWS_OF_ONE: usize = 3 * MOVES;
+
 const ROWS: usize = 3 * stations::LIMIT;
 
 const IMAGE: usize = stations::HEADER + stations::RECORD * stations::LIMIT;
 
-// Check. The input is read as far as 65,536 bytes: a longer one has no table that is not too long, and is refused for its
-// header or its length, which is wrong in the part as it is in the whole.
-pub fn check(fd: i32) -> Told
-    ensures { λ r. ⌜ r .count ≤ limit ⌝ }
+// Check, on its input.
+fn check(input: &[u8], mark: &mut usize) -> bool
+    ensures { λ r. ⌜ Tells (printedCheck (now (input .entry))) (now (mark .entry)) (now (mark .exit)) r ⌝ }
 {
-    let mut input = io::large_buffer();
-    let size = io::read_full(fd, &mut input);
     let mut rows = [0u32; ROWS];
-    let answer = asked_check(&input[..size], &mut rows);
-    let mut text = io::large_buffer();
-    tell_check(&mut text, &rows, answer)
+    let answer = asked_check(input, &mut rows);
+    let mut text = streams::space();
+    tell_check(&mut text, &rows, answer, mark)
 }
 
 // The lines of one new channel, or the refusal's line.
 fn put_channel(text: &mut [u8], at: usize, input: &[u8], channel: u32) -> Channel
-    requires { ⌜ at + 2607 ≤ length (now text) ⌝ }
-    ensures { λ r. ⌜ (r .at ≤ at + 2607) × (r .rows ≤ 79) ⌝ }
+    requires { ⌜ at + 33 * (channelCount - 1) ≤ length (now text) ⌝ }
+    ensures { λ r. ⌜ Wrote (channelText (now (input .entry)) channel) (now (text .entry)) at (now (text .exit)) (r .at) ⌝ }
+    ensures { λ r. ⌜ (r .at ≤ at + 33 * (channelCount - 1)) × (r .refused ≡ isDenied (arrangeInput channel channel (now (input .entry)))) ⌝ }
 {
-    let mut rows = [0u32; 237];
+    let mut rows = [0u32; ROWS_OF_ONE];
     let answer = asked_arrange(input, channel, &mut rows);
     put_answer(text, at, &rows, answer)
 }
 
 // The new channels from 221 to 300, one at a time. What is refused for one is refused for all, so it stands alone.
-fn tell_channels(text: &mut [u8], input: &[u8]) -> Told
+fn tell_channels(text: &mut [u8], input: &[u8], mark: &mut usize) -> bool
     requires { ⌜ 65536 ≤ length (now text) ⌝ }
-    ensures { λ r. ⌜ r .count ≤ 6320 ⌝ }
+    ensures { λ r. ⌜ Tells (printedArrange (now (input .entry))) (now (mark .entry)) (now (mark .exit)) r ⌝ }
 {
     let mut at: usize = 0;
-    let mut count: usize = 0;
     let mut channel = LOWEST_ASKED;
     while channel <= HIGHEST_ASKED {
-        let p = room(text, at, LINE * MOVES);
+        let p = room(text, at, LINE * MOVES, mark);
         if !p.whole {
-            return Told {
-                count,
-                whole: false,
-            };
+            return false;
         }
         let c = put_channel(text, p.at, input, channel);
         at = c.at;
         if c.refused {
-            let whole = write(text, at);
-            return Told { count: 0, whole };
+            return hand(text, at, mark);
         }
-        count += c.rows;
         channel += 1;
     }
-    let whole = write(text, at);
-    Told { count, whole }
+    hand(text, at, mark)
 }
 
-// Arrange, for the new channels from 221 to 300.
-pub fn arrange(fd: i32) -> Told
-    ensures { λ r. ⌜ r .count ≤ 6320 ⌝ }
+// Arrange, on its input, for the new channels from 221 to 300.
+fn arrange(input: &[u8], mark: &mut usize) -> bool
+    ensures { λ r. ⌜ Tells (printedArrange (now (input .entry))) (now (mark .entry)) (now (mark .exit)) r ⌝ }
 {
-    let mut input = io::large_buffer();
-    let size = io::read_full(fd, &mut input);
-    let mut text = io::large_buffer();
-    tell_channels(&mut text, &input[..size])
+    let mut text = streams::space();
+    tell_channels(&mut text, input, mark)
 }
 
-// Add, Withdraw or Move: the new image.
-pub fn change(fd: i32) -> Told
-    ensures { λ r. ⌜ r .count ≤ 8 + 16 * limit ⌝ }
+// Add, Withdraw or Move, on its input: the new image.
+fn change(input: &[u8], mark: &mut usize) -> bool
+    ensures { λ r. ⌜ Tells (printedChange (now (input .entry))) (now (mark .entry)) (now (mark .exit)) r ⌝ }
 {
-    let mut input = io::large_buffer();
-    let size = io::read_full(fd, &mut input);
     let mut image = [0u8; IMAGE];
-    let answer = asked_change(&input[..size], &mut image);
-    tell_change(&mut image, answer)
+    let answer = asked_change(input, &mut image);
+    tell_change(&mut image, answer, mark)
+}
+
+// The distance between two sites, on its input.
+fn study(input: &[u8], mark: &mut usize) -> bool
+    ensures { λ r. ⌜ Tells (printedStudy (now (input .entry))) (now (mark .entry)) (now (mark .exit)) r ⌝ }
+{
+    let mut text = [0u8; LINE];
+    let answer = asked_distance(input);
+    tell_distance(&mut text, answer, mark)
+}
+
+// The program that is named, on its input.
+fn tell(program: Program, input: &[u8], mark: &mut usize) -> bool
+    ensures { λ r. ⌜ Tells (printedBy program (now (input .entry))) (now (mark .entry)) (now (mark .exit)) r ⌝ }
+{
+    match program {
+        Program::Check => check(input, mark),
+        Program::Arrange => arrange(input, mark),
+        Program::Change => change(input, mark),
+        Program::Study => study(input, mark),
+    }
+}
+
+// Runs a program on a descriptor; it writes to standard output. Answers whether all was written. The input is read as far as
+// 65,536 bytes: a longer one is answered as these are.
+pub fn run(program: Program, fd: i32) -> bool
+    ensures { λ r. ⌜ Ran (printedBy program) r ⌝ }
+{
+    let mut input = streams::space();
+    let size = streams::read(fd, &mut input);
+    let mut mark: usize = 0;
+    tell(program, &input[..size], &mut mark)
 }

@@ -1,17 +1,17 @@
 -- The box around a site that the class which keeps the most gives: no station outside it is short. Assumes nothing.
-use mathlib.Core.Path.{_≡_, sym}
+use mathlib.Core.Path.{_≡_}
 use mathlib.Core.List.{List}
 use mathlib.Core.Logic.{_⊎_, inl, inr}
-use Prim.Native.Nat.{ℕ, _+_, _-_, _*_, _/_, _≤_, _<_}
+use Prim.Native.Nat.{ℕ, _-_, _*_, _/_, _≤_, _<_}
 use native.Mathlib.Nat.{le-trans, mul-le-mul-left, le-div-iff-mul-le, div-add-mod'}
 use native.Mathlib.Omega.{arith}
 use native.Mathlib.Decide.{decLt}
 use lib.Dec.{lit<}
 use lib.ListN.{getD}
-use Rattle.distance.specs.Distance.{S, latGap, lonGap, Placed}
+use Rattle.distance.specs.Distance.{S, latGap, lonGap}
 use Rattle.part73.specs.Separations.{Separations}
 use Rattle.spacing.specs.Limits.{limitOf, northOf, eastOf, northAt, eastAt, LimitsAt}
-use Rattle.spacing.specs.Reaching.{InRange, Beyond, Seconds, Fair, Surrounds}
+use Rattle.spacing.specs.Reaching.{InRange, Beyond, Seconds, Surrounds}
 use Rattle.spacing.specs.declared.Around.{Around}
 use Rattle.spacing.specs.declared.Place.{Place}
 use Rattle.spacing.proofs.Rule.{far-clear}

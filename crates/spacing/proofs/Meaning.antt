@@ -1,17 +1,24 @@
--- What the pair rule means: short is the same in either order of the pair; no pair at or below 220, and none at another
--- difference than 0, 1, 2, 3, 53 and 54, is short. Over any table of separations. Assumes nothing.
-use mathlib.Core.Path.{_≡_, refl, _∙_}
-use mathlib.Core.Bool.{Bool, true, false, and-comm}
+-- What the pair rule means: a pair is short exactly as the owner words it, in either order; no pair at or below 220, and none at
+-- another difference than 0, 1, 2, 3, 53 and 54, is short. Over any table of separations. Assumes nothing.
+use mathlib.Core.Path.{_≡_, refl, sym, _∙_}
+use mathlib.Core.Logic.{_↔_, _⊎_, inl, inr}
+use mathlib.Core.Bool.{Bool, true, false, and-comm, true≢false}
 use Prim.Native.Nat.{ℕ, _-_, _≤_, _<_}
-use native.Mathlib.Nat.{add-comm}
-use lib.Dec.{leb}
-use Rattle.distance.specs.Distance.{S}
-use Rattle.distance.proofs.Squares.{S-sym}
-use Rattle.part73.specs.Columns.{gap, none, column}
+use native.Mathlib.Nat.{add-comm, lt-of-le-of-lt}
+use native.Mathlib.Decide.{decLt}
+use native.Mathlib.Omega.{arith}
+use lib.Dec.{leb, lit<}
+use borrow.Author.Tests.{ltb-true, lt-ltb}
+use Rattle.distance.specs.Distance.{Placed, Rounded, D}
+use Rattle.distance.proofs.Rounding.{D-is, unique}
+use Rattle.distance.proofs.Squares.{S-sym, S-size}
+use Rattle.part73.specs.Columns.{gap, none}
 use Rattle.part73.specs.Separations.{Separations}
-use Rattle.part73.proofs.Facts.{column-none}
-use Rattle.spacing.specs.Pair.{Assignment, exempt, columnFor, separation, squareOf, distanceOf, shortBy}
-use Rattle.spacing.proofs.Rule.{for-open, for-exempt, exempt-low, by-none}
+use Rattle.part73.specs.TableA.{tableA}
+use Rattle.part73.proofs.Facts.{column-none, table-a}
+use Rattle.spacing.specs.Pair.{Assignment, exempt, columnFor, separation, squareOf, distanceOf, shortBy, short}
+use Rattle.spacing.specs.Meaning.{HeldShort}
+use Rattle.spacing.proofs.Rule.{column-most, for-open, for-exempt, for-some, exempt-low, open-high, by-none}
 
 gap-swap : (x y : ℕ) → gap x y ≡ gap y x
 unfolding gap
@@ -27,6 +34,15 @@ column-other x y h n m = go (exempt x y) refl
     go : (b : Bool) → exempt x y ≡ b → columnFor x y ≡ none
     go true e = for-exempt x y e
     go false e = for-open x y e ∙ column-none (gap x y) h n m
+
+-- of two channels that are not exempt one is above 220
+above-220 : (x y : ℕ) → exempt x y ≡ false → (220 < x) ⊎ (220 < y)
+above-220 x y e = go (decLt 220 x) (decLt 220 y)
+  where
+    go : Dec (220 < x) → Dec (220 < y) → (220 < x) ⊎ (220 < y)
+    go (yes h) k = inl h
+    go (no n) (yes k) = inr k
+    go (no n) (no m) = absurd (true≢false (sym (exempt-low x y (omega arith) (omega arith)) ∙ e))
 
 module _ {km : ℕ → ℕ → ℕ → ℕ} (table : Separations km) where
   -- either order of the pair
@@ -47,3 +63,38 @@ module _ {km : ℕ → ℕ → ℕ → ℕ} (table : Separations km) where
     -- any other difference
     pub never-other : 3 < gap (p .channel) (q .channel) → (gap (p .channel) (q .channel) ≡ 53 → ⊥) → (gap (p .channel) (q .channel) ≡ 54 → ⊥) → shortBy km p q ≡ false
     never-other h n m = without (column-other (p .channel) (q .channel) h n m)
+
+    module _ (placed : Placed (p .latitude) (p .longitude)) (placed′ : Placed (q .latitude) (q .longitude)) where
+      rounds : Rounded (squareOf p q) (D (squareOf p q))
+      unfolding squareOf
+      rounds = D-is _ (lt-of-le-of-lt (S-size placed placed′) (lit< tt))
+
+      held : shortBy km p q ≡ true → HeldShort km p q
+      unfolding shortBy separation distanceOf
+      held e =
+          let x = p .channel in
+          let y = q .channel in
+          let some : columnFor x y ≡ none → ⊥ = λ n. true≢false (sym e ∙ without n) in
+          let o = for-some x y some in
+          let c = for-open x y o in
+          let less : D (squareOf p q) < km (p .class) (q .class) (columnFor x y) = ltb-true _ _ e in
+          record {
+            above = above-220 x y o;
+            one-of-four = column-most (gap x y) (λ n. some (c ∙ n));
+            distance = D (squareOf p q);
+            rounded = rounds;
+            below = rw c at less;
+          }
+
+      is-short : HeldShort km p q → shortBy km p q ≡ true
+      unfolding shortBy separation distanceOf
+      is-short h = rw (for-open (p .channel) (q .channel) (open-high (p .channel) (q .channel) (h .above)), unique rounds (h .rounded)) (lt-ltb _ _ (h .below))
+
+      -- a pair is held short exactly so, in either order of the pair
+      pub held-short : ((shortBy km p q ≡ true) ↔ HeldShort km p q) × ((shortBy km q p ≡ true) ↔ HeldShort km p q)
+      held-short = ((held, is-short), rw (short-either q p) (held, is-short))
+
+-- by Table A
+pub held-short-by-table-a : (p q : Assignment) → p .class < 8 → q .class < 8 → Placed (p .latitude) (p .longitude) → Placed (q .latitude) (q .longitude)
+    → ((short p q ≡ true) ↔ HeldShort tableA p q) × ((short q p ≡ true) ↔ HeldShort tableA p q)
+held-short-by-table-a = held-short table-a

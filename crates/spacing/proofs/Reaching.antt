@@ -1,19 +1,18 @@
 -- How far two stations reach along the channels, by S and four squares that fall. Assumes nothing.
 use mathlib.Core.Path.{_≡_, refl, sym, ap, _∙_}
-use mathlib.Core.Bool.{Bool, true, false, _||_, and-false}
+use mathlib.Core.Bool.{Bool, true, false, _||_}
 use mathlib.Core.List.{List}
-use mathlib.Core.Logic.{inl}
 use Prim.Native.Nat.{ℕ, zero, suc, _^_, _≤_, _<_}
 use native.Mathlib.Omega.{arith}
 use native.Mathlib.Decide.{ℕ-discrete, decLt}
-use lib.Dec.{ltb, eqb, lit<}
+use lib.Dec.{ltb, lit<}
 use borrow.Author.Tests.{lt-ltb, le-ltb, eq-eqb, ne-eqb}
 use Rattle.ground.specs.Guard.{given}
 use Rattle.distance.specs.Distance.{S, D}
 use Rattle.part73.specs.Columns.{gap, column}
 use Rattle.part73.specs.Separations.{Separations}
 use Rattle.part73.proofs.Facts.{column-low, column-53, column-54, column-none}
-use Rattle.spacing.specs.Pair.{sited, exempt, columnFor, separation, squareOf, distanceOf, shortBy}
+use Rattle.spacing.specs.Pair.{separation, squareOf, distanceOf, shortBy}
 use Rattle.spacing.specs.Limits.{limitOf, LimitsAt, squaresOf, Falling, Under}
 use Rattle.spacing.specs.Reaching.{InRange, hits, Reaches}
 use Rattle.spacing.specs.declared.Place.{Place}

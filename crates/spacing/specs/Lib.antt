@@ -1,4 +1,5 @@
 pub mod Pair
+pub mod Meaning
 pub mod Points
 pub mod Limits
 pub mod Reaching

@@ -4,17 +4,18 @@ use mathlib.Core.List.{List, [], _∷_, _++_, append-assoc, List·Memᴰ·head, 
 use Prim.Native.Nat.{ℕ, zero, suc, _+_, _*_, _^_, _≤_, _<_}
 use native.Mathlib.Nat.{add-zero, zero-add}
 use native.Mathlib.Omega.{arith}
+use lib.IntN.{ℤ}
 use lib.ListN.{length, getD, length-append}
 use lib.Seq.{getD-at}
 use mir.Syntax.{w32}
-use mir.Val.{SFits, ofZ}
-use mir.ValLaws.{toZ-ofZ, ofZ-fits}
+use mir.Val.{SFits, toZ, ofZ}
 use Rattle.ground.specs.Lists.{_∈_, build, each}
 use Rattle.ground.proofs.Guards.{guards}
 use Rattle.ground.proofs.Order.{ahead-of, rest-of}
 use Rattle.ground.proofs.Signed.{fit32}
 use Rattle.wire.specs.Be.{be, bytes}
 use Rattle.wire.proofs.Width.{be-bytes, length-bytes}
+use Rattle.wire.proofs.Sign.{signed-bytes}
 use Rattle.distance.specs.Distance.{latitudeOk, longitudeOk}
 use Rattle.stations.specs.Image.{stationAt, stations, count, headed, numbers, judged, scan, scanned, verdict, Headed}
 use Rattle.stations.specs.Version.{top, limit, versionOf}
@@ -55,6 +56,9 @@ fine-sized r f h =
 field : (k v at : ℕ) (s p q : List ℕ) → s ≡ p ++ (bytes k v ++ q) → length p ≡ at → v < 256 ^ k → be k s at ≡ v
 field k v at s p q e l h = rw (e, ← l) (be-bytes k v p q h)
 
+signed-field : (z : ℤ) (at : ℕ) (s p q : List ℕ) → s ≡ p ++ (bytes 4 (ofZ w32 z) ++ q) → length p ≡ at → SFits w32 z → toZ w32 (be 4 s at) ≡ z
+signed-field z at s p q e l f = rw (e, ← l) (signed-bytes z p q f)
+
 item : (v at : ℕ) (s p q : List ℕ) → s ≡ p ++ v ∷ q → length p ≡ at → getD s at 0 ≡ v
 item v at s p q e l = rw e (getD-at p v q 0 at l)
 
@@ -73,8 +77,6 @@ module _ (r : Station) (f : Sized r) (p q : List ℕ) (i : ℕ) (l : length p �
       let c = bytes 2 (r .channel) in
       let x = ofZ w32 (r .latitude) in
       let y = ofZ w32 (r .longitude) in
-      let fx = f .latitude in
-      let fy = f .longitude in
       let tail = bytes 4 x ++ (bytes 4 y ++ q) in
       let p1 = p ++ a in
       let p2 = p1 ++ c in
@@ -85,9 +87,9 @@ module _ (r : Station) (f : Sized r) (p q : List ℕ) (i : ℕ) (l : length p �
       let e1 : be 2 s (at + 4) ≡ r .channel = field 2 (r .channel) (at + 4) s p1 (r .class ∷ r .flags ∷ tail) (simp append-assoc) (simp (length-append, length-bytes) (omega arith)) (omega (arith, f .channel)) in
       let e2 : getD s (at + 6) 0 ≡ r .class = item (r .class) (at + 6) s p2 (r .flags ∷ tail) (simp append-assoc) (simp (length-append, length-bytes) (omega arith)) in
       let e3 : getD s (at + 7) 0 ≡ r .flags = item (r .flags) (at + 7) s p3 tail (simp append-assoc) (simp (length-append, length-bytes) (omega arith)) in
-      let e4 : be 4 s (at + 8) ≡ x = field 4 x (at + 8) s p4 (bytes 4 y ++ q) (simp append-assoc) (simp (length-append, length-bytes) (omega arith)) (omega (arith, ofZ-fits w32 (r .latitude) fx)) in
-      let e5 : be 4 s (at + 12) ≡ y = field 4 y (at + 12) s p5 q (simp append-assoc) (simp (length-append, length-bytes) (omega arith)) (omega (arith, ofZ-fits w32 (r .longitude) fy)) in
-      rw (e0, e1, e2, e3, e4, e5, toZ-ofZ w32 (r .latitude) fx, toZ-ofZ w32 (r .longitude) fy) refl
+      let e4 : toZ w32 (be 4 s (at + 8)) ≡ r .latitude = signed-field (r .latitude) (at + 8) s p4 (bytes 4 y ++ q) (simp append-assoc) (simp (length-append, length-bytes) (omega arith)) (f .latitude) in
+      let e5 : toZ w32 (be 4 s (at + 12)) ≡ r .longitude = signed-field (r .longitude) (at + 12) s p5 q (simp append-assoc) (simp (length-append, length-bytes) (omega arith)) (f .longitude) in
+      rw (e0, e1, e2, e3, e4, e5) refl
 
 build-cong : {A : Type 0} (n : ℕ) (f g : ℕ → A) → ((j : ℕ) → f j ≡ g j) → build n f ≡ build n g
 unfolding build

@@ -7,8 +7,8 @@ use lib.ListN.{length, take, drop, take-append-drop, length-drop}
 use lib.Seq.{take-at, drop-at, drop-drop, length-take-le}
 use Rattle.ground.specs.Lists.{each}
 use Rattle.ground.proofs.Spans.{each-append}
-use Rattle.wire.proofs.Width.{Bytes}
-use Rattle.stations.specs.Image.{stations, judged}
+use Rattle.wire.specs.Be.{Bytes}
+use Rattle.stations.specs.Image.{bytesAt, stations, judged}
 use Rattle.stations.specs.Version.{versionOf}
 use Rattle.stations.specs.Encode.{recordOf, headerOf, encode}
 use Rattle.stations.specs.declared.Station.{Station}
@@ -35,7 +35,7 @@ module _ (rs : List Station) (m : ℕ) (h : m ≤ length rs) where
   drop-body = rw body-cut (drop-at (each recordOf (take m rs)) (each recordOf (drop m rs)) (16 * m) front-long)
 
 -- the sixteen bytes of the record at i
-pub bytes-at : (rs : List Station) (i : ℕ) (x : Station) (rest : List Station) → drop i rs ≡ x ∷ rest → take 16 (drop (8 + 16 * i) (encode rs)) ≡ recordOf x
+pub bytes-at : (rs : List Station) (i : ℕ) (x : Station) (rest : List Station) → drop i rs ≡ x ∷ rest → bytesAt (encode rs) i ≡ recordOf x
 unfolding encode each
 bytes-at rs i x rest e =
     let head = headerOf (versionOf rs) (length rs) in

@@ -6,13 +6,11 @@ use native.Mathlib.Nat.{add-assoc}
 use native.Mathlib.Omega.{arith}
 use lib.ListN.{length, take, drop, take-append-drop, drop-of-length-le}
 use lib.Seq.{drop-drop}
-use mir.Syntax.{w32}
-use mir.Val.{toZ, ofZ}
-use mir.ValLaws.{ofZ-toZ}
 use Rattle.ground.specs.Lists.{each}
-use Rattle.wire.specs.Be.{be, bytes}
-use Rattle.wire.proofs.Width.{Bytes, bytes-be, be-lt, cut, one-at}
-use Rattle.stations.specs.Image.{stationAt, stations, version, judged}
+use Rattle.wire.specs.Be.{Bytes, bytes}
+use Rattle.wire.proofs.Width.{bytes-be, cut, one-at}
+use Rattle.wire.proofs.Sign.{bytes-signed}
+use Rattle.stations.specs.Image.{stationAt, bytesAt, stations, version, judged}
 use Rattle.stations.specs.Version.{versionOf}
 use Rattle.stations.specs.Encode.{recordOf, headerOf, encode}
 use Rattle.stations.specs.declared.Judged.the-variants.{Table}
@@ -21,15 +19,12 @@ use Rattle.stations.proofs.Table.{Whole, whole, next, done, length-stat
 use Rattle.stations.proofs.Fine.{good}
 
 module _ (s : List ℕ) (b : Bytes s) where
-  signed-bytes : (at : ℕ) → at + 4 ≤ length s → bytes 4 (ofZ w32 (toZ w32 (be 4 s at))) ≡ take 4 (drop at s)
-  signed-bytes at h = rw (ofZ-toZ w32 (be 4 s at) (record { fits = omega (arith, be-lt 4 s at b) })) (bytes-be 4 s at b h)
-
   -- a record that was read, as bytes again
-  pub record-bytes : (i : ℕ) → 8 + 16 * i + 16 ≤ length s → recordOf (stationAt s i) ≡ take 16 (drop (8 + 16 * i) s)
+  pub record-bytes : (i : ℕ) → 8 + 16 * i + 16 ≤ length s → recordOf (stationAt s i) ≡ bytesAt s i
   unfolding recordOf stationAt
   record-bytes i h =
       let at = 8 + 16 * i in
-      rw (bytes-be 4 s at b (omega arith), bytes-be 2 s (at + 4) b (omega arith), signed-bytes (at + 8) (omega arith), signed-bytes (at + 12) (omega arith))
+      rw (bytes-be 4 s at b (omega arith), bytes-be 2 s (at + 4) b (omega arith), bytes-signed s (at + 8) b (omega arith), bytes-signed s (at + 12) b (omega arith))
       (rw (
         cut 4 12 s at,
         cut 2 10 s (at + 4),

@@ -4,6 +4,7 @@ pub mod Pairs
 pub mod Versions
 pub mod Stages
 pub mod Table
+pub mod Longer
 pub mod Fine
 pub mod Image
 pub mod Back

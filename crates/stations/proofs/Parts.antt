@@ -12,7 +12,8 @@ use Rattle.ground.proofs.Cases.{either}
 use Rattle.ground.proofs.Keeps.{length-keep}
 use Rattle.ground.proofs.Order.{in-keep, ascending-keep}
 use Rattle.ground.proofs.Positions.{in-build}
-use Rattle.wire.proofs.Width.{Bytes, be-lt}
+use Rattle.wire.specs.Be.{Bytes}
+use Rattle.wire.proofs.Width.{be-lt}
 use Rattle.stations.specs.Image.{stationAt, stations, version, count, judged}
 use Rattle.stations.specs.Version.{top, limit, versionOf}
 use Rattle.stations.specs.Encode.{encode}

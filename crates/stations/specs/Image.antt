@@ -4,7 +4,7 @@ use mathlib.Core.Bool.{not, _&&_, _||_}
 use mathlib.Core.List.{List, [], _∷_}
 use Prim.Native.Nat.{ℕ, _+_, _*_}
 use lib.Dec.{ltb, leb, eqb}
-use lib.ListN.{length, getD}
+use lib.ListN.{length, getD, take, drop}
 use mir.Syntax.{w32}
 use mir.Val.{toZ}
 use Rattle.ground.specs.Guard.{given}
@@ -37,6 +37,10 @@ stationFrom s at =
 -- the record at a position, after the header's 8 bytes
 unfoldable pub stationAt : List ℕ → ℕ → Station
 stationAt s i = stationFrom s (8 + 16 * i)
+
+-- and its sixteen bytes
+abbrev pub bytesAt : List ℕ → ℕ → List ℕ
+bytesAt s i = take 16 (drop (8 + 16 * i) s)
 
 -- the header: the mark `FMS`, a 16-bit version, one zero byte, a 16-bit count
 abbrev pub version : List ℕ → ℕ

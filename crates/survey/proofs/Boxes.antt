@@ -15,10 +15,10 @@ use borrow.Author.Tests.{ltb-true, ltb-false}
 use Rattle.ground.proofs.Signed.{fit32}
 use Rattle.part73.specs.TableA.{tableA}
 use Rattle.spacing.specs.Pair.{sited}
-use Rattle.spacing.specs.Reaching.{Beyond, Seconds, Fair, Surrounds}
+use Rattle.spacing.specs.Reaching.{Seconds, Fair, Surrounds}
 use Rattle.spacing.specs.declared.Around.{Around}
 use Rattle.spacing.specs.declared.Place.{Place}
-use Rattle.stations.specs.Image.{stationAt, count, Accepted}
+use Rattle.stations.specs.Image.{stationAt, Accepted}
 use Rattle.survey.specs.Ways.{placeOf, near, everyRecord}
 use Rattle.survey.specs.Marks.{blocks, Marked}
 use Rattle.survey.specs.Walking.{Skipped}

@@ -2,7 +2,6 @@
 // one walk over the table.
 ghost use mathlib.Core.Path.{_≡_};
 ghost use Prim.Native.Nat.{_<_};
-ghost use lib.ListN.{length};
 ghost use Rattle.part73.specs.TableA.{tableA};
 ghost use Rattle.spacing.specs.Pair.{sited};
 ghost use Rattle.stations.specs.Image.{stationAt, count};

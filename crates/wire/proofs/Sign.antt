@@ -1,16 +1,21 @@
--- Signed numbers and their bits: the two sides of 0.
+-- Signed numbers of 32 bits and their bits: the two sides of 0, and their four bytes, both ways.
 -- Assumes nothing.
 use mathlib.Core.Path.{_≡_, refl, ap}
 use mathlib.Core.Bool.{true, false}
-use Prim.Native.Nat.{ℕ, zero, suc, _-_, _^_, _<_}
+use mathlib.Core.List.{List, _++_}
+use Prim.Native.Nat.{ℕ, zero, suc, _+_, _-_, _^_, _≤_, _<_}
 use native.Mathlib.Nat.{zero-add}
 use native.Mathlib.Omega.{arith}
 use lib.IntN.{ℤ, pos, negsuc, _-ℤ_, natAbs}
 use lib.Signed.{leZ, nonNeg, mag}
 use lib.Dec.{T}
+use lib.ListN.{length, take, drop}
 use mir.Syntax.{w32}
-use mir.Val.{Fits, SFits, ofZ}
+use mir.Val.{Fits, SFits, toZ, ofZ}
+use mir.ValLaws.{toZ-ofZ, ofZ-toZ, ofZ-fits}
 use borrow.Author.Tests.{le-ltb, leb-false}
+use Rattle.wire.specs.Be.{Bytes, be, bytes}
+use Rattle.wire.proofs.Width.{be-bytes, bytes-be, be-lt}
 
 -- -1 - n
 pub minus : (n : ℕ) → negsuc 0 -ℤ pos n ≡ negsuc n
@@ -28,3 +33,11 @@ down (pos n) f e = absurd (omega (arith, leb-false 0 n e))
 down (negsuc n) f e =
     let h : n < 2 ^ 31 = f .sfits in
     (h, rw (le-ltb (suc n) 1 (omega arith)) (ap pos (omega arith)), omega arith)
+
+-- the bytes of a signed number, read back
+pub signed-bytes : (z : ℤ) (p q : List ℕ) → SFits w32 z → toZ w32 (be 4 (p ++ (bytes 4 (ofZ w32 z) ++ q)) (length p)) ≡ z
+signed-bytes z p q f = rw (be-bytes 4 (ofZ w32 z) p q (omega (arith, ofZ-fits w32 z f))) (toZ-ofZ w32 z f)
+
+-- a signed number that was read, as bytes again
+pub bytes-signed : (s : List ℕ) (at : ℕ) → Bytes s → at + 4 ≤ length s → bytes 4 (ofZ w32 (toZ w32 (be 4 s at))) ≡ take 4 (drop at s)
+bytes-signed s at b h = rw (ofZ-toZ w32 (be 4 s at) (record { fits = omega (arith, be-lt 4 s at b) })) (bytes-be 4 s at b h)

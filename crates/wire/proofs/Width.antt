@@ -6,9 +6,9 @@ use Prim.Native.Nat.{ℕ, zero, suc, _+_, _*_, _/_, _%_, _^_, _≤_, _<_}
 use native.Mathlib.Nat.{add-suc, add-zero, add-assoc, mul-assoc, mul-comm, pow-succ', div-lt-iff-lt-mul}
 use native.Mathlib.Omega.{arith}
 use lib.ListN.{length, getD, take, drop, set, length-append, length-drop}
-use lib.Seq.{drop-cons, getD-at, getD-drop, take-suc, take-add, drop-drop, append-snoc, sets, length-sets}
+use lib.Seq.{drop-cons, getD-at, getD-drop, take-suc, take-add, drop-drop, append-snoc, length-sets}
 use Rattle.ground.proofs.Writes.{sets-append}
-use Rattle.wire.specs.Be.{be, bytes, put}
+use Rattle.wire.specs.Be.{Bytes, be, bytes, put}
 
 -- a number of j + k bytes is one of j bytes and then one of k
 pub be-add : (j k : ℕ) (s : List ℕ) (at : ℕ) → be (j + k) s at ≡ be j s at * 256 ^ k + be k s (at + j)
@@ -50,10 +50,6 @@ be-bytes (suc k) v p q h =
     let low : getD (head ++ v % 256 ∷ q) (length p + k) 0 ≡ v % 256 = getD-at head (v % 256) q 0 (length p + k) long in
     let low′ : getD (p ++ (bytes k (v / 256) ++ v % 256 ∷ q)) (length p + k) 0 ≡ v % 256 = rw append-assoc at low in
     rw append-snoc (omega (arith, high, low′))
-
--- each element is a byte
-abbrev pub Bytes : List ℕ → Type 0
-Bytes s = (i : ℕ) → getD s i 0 < 256
 
 -- a number that was read, as bytes again
 pub bytes-be : (k : ℕ) (s : List ℕ) (at : ℕ) → Bytes s → at + k ≤ length s → bytes k (be k s at) ≡ take k (drop at s)

@@ -1,9 +1,13 @@
 -- 01, The table image: numbers of k bytes, big-endian.
 -- Assumes nothing.
 use mathlib.Core.List.{List, [], _∷_, _++_}
-use Prim.Native.Nat.{ℕ, zero, suc, _+_, _*_, _/_, _%_}
+use Prim.Native.Nat.{ℕ, zero, suc, _+_, _*_, _/_, _%_, _<_}
 use lib.ListN.{getD}
 use lib.Seq.{sets}
+
+-- each element is a byte
+abbrev pub Bytes : List ℕ → Type 0
+Bytes s = (i : ℕ) → getD s i 0 < 256
 
 -- the number in the k bytes of s from `at`
 unfoldable pub be : ℕ → List ℕ → ℕ → ℕ

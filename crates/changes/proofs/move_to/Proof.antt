@@ -12,7 +12,7 @@ use Rattle.finding.specs.Conflicts.{conflicts}
 use Rattle.changes.specs.Changes.{Decision}
 use Rattle.stations.proofs.Stages.{counted, is-accepted}
 use Rattle.stations.proofs.Table.{whole, length-stations}
-use Rattle.changes.proofs.There.{count-small, place-small, within, own-id, first-at, with-at}
+use Rattle.changes.proofs.There.{count-small, within, own-id, first-at, with-at}
 use Rattle.stations.specs.declared.Station.{Station}
 use Rattle.desk.specs.Asked.{outside}
 use Rattle.survey.proofs.Records.{known-at, room-at}
@@ -109,7 +109,7 @@ is-movable-requires : tie.Need-is-movable-requires
 is-movable-requires c κs = search needs
 
 cast-refused-with : tie.Need-cast-refused-with
-cast-refused-with c = let p = c .before .before .before .before .before in omega (arith, place-small _ _ (told (p .before .before .before)) _ _ (p .place-of .ensures))
+cast-refused-with c = let e = c .before .before .before in omega (arith, lies e, count-small _ _ (told (e .before .before .before .before .before)))
 
 refused-with-requires : tie.Need-refused-with-requires
 refused-with-requires c κs = search needs

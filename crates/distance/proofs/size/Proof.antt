@@ -1,8 +1,8 @@
 -- `distance::size` meets its contract. Assumes nothing.
 use native.Mathlib.Omega.{arith}
-use lib.IntN.{ℤ, pos, _-ℤ_}
+use lib.IntN.{pos, _-ℤ_}
 use mir.Syntax.{w64}
-use mir.Val.{SFits, Fits}
+use mir.Val.{SFits}
 use mir.Facts.{toZ-ofZ}
 use Rattle.ground.proofs.Signed.{fit64, abs-zero-sub, below-zero, not-below-zero}
 use Rattle.distance.proofs.size.Statement.{statement}

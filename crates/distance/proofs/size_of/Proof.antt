@@ -1,8 +1,8 @@
 -- `distance::size_of` meets its contract. Assumes nothing.
 use native.Mathlib.Omega.{arith}
-use lib.IntN.{ℤ, pos, _-ℤ_}
+use lib.IntN.{pos, _-ℤ_}
 use mir.Syntax.{w32}
-use mir.Val.{SFits, Fits}
+use mir.Val.{SFits}
 use mir.Facts.{toZ-ofZ}
 use Rattle.ground.proofs.Signed.{fit32, abs-zero-sub, below-zero, not-below-zero}
 use Rattle.distance.proofs.size_of.Statement.{statement}

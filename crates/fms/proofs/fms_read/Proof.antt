@@ -1,6 +1,4 @@
 -- `fms::fms_read` meets its contract. Assumes nothing.
-use mathlib.Core.Path.{ap, _∙_}
-use Rattle.fms.specs.Packed.{packed}
 use borrow.Author.Needs.{needs}
 use Rattle.fms.proofs.fms_read.Statement.{statement}
 use Rattle.fms.proofs.fms_read.Tie as tie
@@ -12,7 +10,7 @@ pack-requires : tie.Need-pack-requires
 pack-requires c κs = search needs
 
 returns : tie.Need-returns
-returns c = c .pack .ensures ∙ ap packed (c .before .read .ensures)
+returns c = rw (c .before .read .ensures) at (c .pack .ensures)
 
 pub fms-read-spec : {M : Type 1} → statement M
 fms-read-spec = tie.close (tie.spec read-requires pack-requires returns)

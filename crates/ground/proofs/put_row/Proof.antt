@@ -28,8 +28,11 @@ same-length c = search needs
 
 returns : tie.Need-returns
 returns c =
-    let at = c .before .before .before .before .before .before .before .before .before .before .before .before .before .args .at in
-    record { next = refl; stored = cc (add-one at, add-two at) }
+    let third = c .before .before in
+    let second = third .before .before .before .before in
+    let first = second .before .before .before .before in
+    let at = first .before .before .before .args .at in
+    record { next = refl; stored = rw (third .put3 .ensures, second .put2 .ensures, first .put .ensures, ← add-two at, ← add-one at) }
 
 pub put-row-spec : {M : Type 1} → statement M
 put-row-spec =

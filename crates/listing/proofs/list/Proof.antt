@@ -6,7 +6,7 @@ use lib.ListN.{length, take, drop}
 use denote.Ref.{now}
 use borrow.Rule.Slice.PartMut.{mid-len}
 use Rattle.ground.proofs.Writes.{Walking, walk-start, walk-turn, walk-end, walk-length, wrote-as}
-use Rattle.part73.specs.Channels.{lowest, highest, channelCount}
+use Rattle.part73.specs.Channels.{highest, channelCount}
 use Rattle.survey.specs.Marks.{markOf}
 use Rattle.planning.specs.Flags.{start}
 use Rattle.listing.specs.Listing.{idAt, markRows, channelRows, allRows}
@@ -33,9 +33,6 @@ module _ (c : tie.In-loop Inv-loop μ-loop) where
   abbrev s : tie.Start Inv-loop μ-loop
   s = at .before .before .before .before
 
-  low : lowest ≤ at .loop .c
-  low = omega (arith, at .loop .inv, s .pre .asked)
-
   high : at .loop .c ≤ highest
   high = omega (arith, c .loop-test .taken, s .pre .asked)
 
@@ -46,7 +43,7 @@ module _ (c : tie.In-loop Inv-loop μ-loop) where
   small = omega (arith, high, s .pre .asked)
 
 sub-k : tie.Need-sub-k Inv-loop μ-loop
-sub-k c = low c
+sub-k c = omega (arith, s c .pre .asked)
 
 mul-mark : tie.Need-mul-mark Inv-loop μ-loop
 mul-mark c = omega (arith, high c)

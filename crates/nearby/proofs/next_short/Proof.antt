@@ -2,12 +2,12 @@
 use mathlib.Core.Path.{_≡_, sym, _∙_}
 use mathlib.Core.Bool.{true, false}
 use mathlib.Core.List.{List}
-use Prim.Native.Nat.{ℕ, _+_, _-_, _%_, _≤_, _<_}
+use Prim.Native.Nat.{ℕ, _+_, _-_, _%_, _<_}
 use native.Mathlib.Omega.{arith}
 use lib.ListN.{getD}
 use denote.Ref.{now}
 use Rattle.ground.specs.Passing.{Passing}
-use Rattle.ground.proofs.Passes.{pass-start, pass-one, pass-on, pass-as}
+use Rattle.ground.proofs.Passes.{pass-one, pass-on, pass-as}
 use Rattle.part73.specs.TableA.{tableA}
 use Rattle.part73.proofs.Facts.{table-a}
 use Rattle.spacing.specs.Pair.{Assignment, sited}
@@ -15,7 +15,7 @@ use Rattle.spacing.proofs.Rule.{no-column}
 use Rattle.stations.specs.Image.{stationAt, count}
 use Rattle.survey.specs.Ways.{near}
 use Rattle.survey.proofs.Records.{known-at, few, header-room}
-use Rattle.nearby.specs.Positions.{Search, Unheld, NextShort}
+use Rattle.nearby.specs.Positions.{Unheld, NextShort}
 use Rattle.nearby.proofs.next_short.Statement.{statement}
 use Rattle.nearby.proofs.next_short.Tie as tie
 

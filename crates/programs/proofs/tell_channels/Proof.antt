@@ -1,20 +1,43 @@
 -- `programs::tell_channels` meets its contract. Assumes nothing.
 use borrow.Author.Needs.{needs}
-use mathlib.Core.Path.{_≡_}
-use Prim.Native.Nat.{_-_, _*_, _≤_}
-use lib.ListN.{length}
+use borrow.Author.Tests.{not-true, not-false}
+use mathlib.Core.Path.{_≡_, refl, sym, _∙_}
+use mathlib.Core.Bool.{false}
+use mathlib.Core.List.{List, []}
+use Prim.Native.Nat.{ℕ, _+_, _-_, _≤_, _<_}
+use native.Mathlib.Omega.{arith}
+use lib.ListN.{length, take}
+use Rattle.lines.proofs.Texts.{kept}
+use Rattle.streams.specs.Pieces.{Telling}
+use Rattle.streams.proofs.Pieces.{start, left-as, end, broken}
+use Rattle.asking.specs.Asking.{arrangeInput}
+use Rattle.part73.specs.Channels.{lowest, highest}
+use Rattle.telling.proofs.Waiting.{put-in}
+use Rattle.programs.specs.OneChannel.{isDenied}
+use Rattle.programs.specs.Printed.{printedArrange}
+use Rattle.programs.proofs.Arranging.{leftFrom, left-first, left-denied, left-next, left-last, all-granted}
 use Rattle.programs.proofs.tell_channels.Statement.{statement}
 use Rattle.programs.proofs.tell_channels.Tie as tie
 
+-- where the lines of the new channels before one are told or wait
+record Turns (text₀ input : List ℕ) (mark₀ : ℕ) (text : List ℕ) (mark at channel : ℕ) : Type 0 where
+  low : lowest ≤ channel
+  high : channel ≤ highest + 1
+  long : length text ≡ length text₀
+  place : at ≤ length text
+  -- past the first of them nothing is refused
+  granted : lowest < channel → isDenied (arrangeInput lowest highest input) ≡ false
+  telling : Telling (printedArrange input) mark₀ mark (take at text) (leftFrom input channel)
+
 abbrev Inv-loop : tie.InvT-loop
-Inv-loop text₀ input at₀ count₀ channel₀ text at count channel =
-    (221 ≤ channel) × (channel ≤ 301) × (count ≤ 79 * (channel - 221)) × (length text ≡ length text₀) × (at ≤ length text)
+Inv-loop text₀ input mark₀ at₀ channel₀ text mark at channel = Turns text₀ input mark₀ text mark at channel
 
 abbrev μ-loop : tie.MeasureT-loop
-μ-loop text₀ input at₀ count₀ channel₀ text at count channel = 301 - channel
+μ-loop text₀ input mark₀ at₀ channel₀ text mark at channel = 301 - channel
 
 loop-holds : tie.Need-loop-holds Inv-loop μ-loop
-loop-holds c = search needs
+loop-holds c =
+    record { low = omega arith; high = omega arith; long = refl; place = omega arith; granted = λ h. absurd (omega arith); telling = left-as (left-first _) (start _ _) }
 
 mul-room : tie.Need-mul-room Inv-loop μ-loop
 mul-room c = search needs
@@ -26,22 +49,26 @@ same-length : tie.Need-same-length Inv-loop μ-loop
 same-length c = search needs
 
 returns : tie.Need-returns Inv-loop μ-loop
-returns c = search needs
+returns c = broken (c .before .before .room .ensures .1 .failed (not-true _ (c .if1 .taken)))
 
 put-channel-requires : tie.Need-put-channel-requires Inv-loop μ-loop
 put-channel-requires c κs = search needs
 
-write-requires : tie.Need-write-requires Inv-loop μ-loop
-write-requires c κs = search needs
+hand-requires : tie.Need-hand-requires Inv-loop μ-loop
+hand-requires c κs = search needs
 
 same-length-2 : tie.Need-same-length-2 Inv-loop μ-loop
 same-length-2 c = search needs
 
 returns-2 : tie.Need-returns-2 Inv-loop μ-loop
-returns-2 c = search needs
-
-add-count : tie.Need-add-count Inv-loop μ-loop
-add-count c = search needs
+returns-2 c =
+    let w = c .before .before .before .before .before .before .put-channel .ensures in
+    let m = c .before .before .before .before .before .before .before .before .before .before .room .ensures in
+    let l = c .before .before .before .before .before .before .before .before .before .before .before .before .before .before .loop in
+    let t : l .channel ≤ highest = omega arith in
+    let d = sym (w .1 .1) ∙ c .before .before .before .if2 .taken in
+    let k = m .1 .kept (not-false _ (c .before .before .before .before .before .before .before .before .if1 .left)) _ _ _ (l .inv .telling) in
+    end (put-in _ [] (omega (arith, w .1 .0, m .0)) (left-as (left-denied _ _ (l .inv .low) t d) k) (w .0)) (c .hand .ensures)
 
 add-channel : tie.Need-add-channel Inv-loop μ-loop
 add-channel c = search needs
@@ -50,16 +77,32 @@ loop-less : tie.Need-loop-less Inv-loop μ-loop
 loop-less c = search needs
 
 loop-again : tie.Need-loop-again Inv-loop μ-loop
-loop-again c = search needs
+loop-again c =
+    let w = c .before .before .before .put-channel .ensures in
+    let m = c .before .before .before .before .before .before .before .room .ensures in
+    let l = c .before .before .before .before .before .before .before .before .before .before .before .loop in
+    let t : l .channel ≤ highest = omega arith in
+    let d = sym (w .1 .1) ∙ c .if2 .left in
+    let k = m .1 .kept (not-false _ (c .before .before .before .before .before .if1 .left)) _ _ _ (l .inv .telling) in
+    record {
+      low = omega (arith, l .inv .low);
+      high = omega arith;
+      long = kept (w .0) ∙ l .inv .long;
+      place = omega (arith, kept (w .0), w .1 .0, m .0);
+      granted = λ h. all-granted _ _ (l .inv .low) t d;
+      telling = put-in _ _ (omega (arith, w .1 .0, m .0)) (left-as (left-next _ _ (l .inv .low) t d) k) (w .0);
+    }
 
-write-requires-2 : tie.Need-write-requires-2 Inv-loop μ-loop
-write-requires-2 c κs = search needs
+hand-requires-2 : tie.Need-hand-requires-2 Inv-loop μ-loop
+hand-requires-2 c κs = search needs
 
 same-length-3 : tie.Need-same-length-3 Inv-loop μ-loop
 same-length-3 c = search needs
 
 returns-3 : tie.Need-returns-3 Inv-loop μ-loop
-returns-3 c = search needs
+returns-3 c =
+    let l = c .before .before .before .before .loop in
+    end (left-as (left-last _ _ (omega arith) (l .inv .granted (omega arith))) (l .inv .telling)) (c .hand2 .ensures)
 
 pub tell-channels-spec : {M : Type 1} → statement M
 tell-channels-spec =
@@ -73,13 +116,12 @@ tell-channels-spec =
     same-length
     returns
     put-channel-requires
-    write-requires
+    hand-requires
     same-length-2
     returns-2
-    add-count
     add-channel
     loop-less
     loop-again
-    write-requires-2
+    hand-requires-2
     same-length-3
     returns-3)

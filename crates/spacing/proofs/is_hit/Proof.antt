@@ -1,5 +1,4 @@
 -- `spacing::is_hit` meets its contract. Assumes nothing.
-use mathlib.Core.Path.{sym}
 use borrow.Author.Tests.{lt-ltb, le-ltb, eq-eqb, ne-eqb}
 use Rattle.spacing.proofs.is_hit.Statement.{statement}
 use Rattle.spacing.proofs.is_hit.Tie as tie

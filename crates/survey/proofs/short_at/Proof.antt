@@ -2,7 +2,6 @@
 use mathlib.Core.Path.{_≡_, ap, _∙_}
 use denote.Ref.{now}
 use borrow.Author.Needs.{needs}
-use Rattle.spacing.specs.declared.Place.{Place}
 use Rattle.stations.specs.Image.{stationAt}
 use Rattle.survey.specs.Ways.{placeOf}
 use Rattle.survey.proofs.Records.{known-at, room-at}

@@ -1,5 +1,9 @@
 -- `telling::tell_check` meets its contract. Assumes nothing.
+use mathlib.Core.Path.{sym, ap}
 use native.Mathlib.Omega.{arith}
+use Rattle.streams.proofs.Pieces.{tells-as}
+use Rattle.telling.specs.Texts.{shortText}
+use Rattle.telling.specs.Told.{told}
 use Rattle.telling.proofs.Rooms.{granted}
 use borrow.Author.Needs.{needs}
 use Rattle.telling.proofs.tell_check.Statement.{statement}
@@ -13,7 +17,7 @@ cast-tell-short c = search needs
 
 tell-short-requires : tie.Need-tell-short-requires
 tell-short-requires c κs =
-    let k = granted _ _ _ (c .before .before .before .before .before .before .pre .1 .1) (c .before .before .answer .given .1) in
+    let k = granted _ _ _ (c .before .before .before .before .before .before .before .pre .1 .1) (c .before .before .before .answer .given .1) in
     (omega arith, (omega arith, omega arith))
 
 enum-known-answer-2 : tie.Need-enum-known-answer-2
@@ -26,13 +30,13 @@ same-length : tie.Need-same-length
 same-length c = search needs
 
 returns : tie.Need-returns
-returns c = omega (arith, granted _ _ _ (c .before .before .before .before .before .before .before .before .before .pre .1 .1) (c .before .before .before .before .before .answer .given .1))
+returns c = tells-as (sym (ap (told shortText _) (c .before .before .before .before .before .before .answer .given .1))) (c .before .before .tell-short .ensures)
 
 same-length-2 : tie.Need-same-length-2
 same-length-2 c = search needs
 
 returns-2 : tie.Need-returns-2
-returns-2 c = search needs
+returns-2 c = tells-as (sym (ap (told shortText _) (c .before .before .before .before .before .before .answer2 .given .1))) (c .before .before .tell-refusal .ensures)
 
 pub tell-check-spec : {M : Type 1} → statement M
 tell-check-spec =

@@ -5,7 +5,6 @@ use native.Mathlib.Omega.{arith}
 use lib.ListN.{length}
 use denote.Ref.{now}
 use mir.Facts.{toZ-ofZ}
-use borrow.Author.Needs.{needs}
 use Rattle.distance.specs.Distance.{lonGap}
 use Rattle.stations.specs.Image.{stationAt}
 use Rattle.survey.proofs.Boxes.{lat-fits, lon-fits}

@@ -1,0 +1,288 @@
+//! The programs held against the naive desk: all that they print, byte for byte, on made, cut, damaged and overlong inputs. They are
+//! target/bin/fm_*, as `rt check` builds them. FMS_RUN names a command that runs them where they do not run by themselves,
+//! FMS_PROGRAMS how many inputs each gets.
+
+mod common;
+
+use std::io::Write;
+use std::path::{Path, PathBuf};
+use std::process::{Command, Stdio};
+
+use common::{IMAGE, ROWS};
+use fms_bench::made::{damaged, proposal_in, scene, Chance, Scene, DAMAGES, MANNERS};
+use fms_bench::naive;
+use fms_bench::question::{Answer, Proposal, Question};
+
+const PROGRAMS: [&str; 4] = ["fm_check", "fm_arrange", "fm_change", "fm_study"];
+
+fn path(program: &str) -> PathBuf {
+    Path::new(env!("CARGO_MANIFEST_DIR"))
+        .join("../target/bin")
+        .join(program)
+}
+
+/// All that a program prints of an input, where it can be started.
+fn run(program: &str, input: &[u8]) -> std::io::Result<Vec<u8>> {
+    let path = path(program);
+    let mut command = match std::env::var("FMS_RUN") {
+        Ok(runner) => {
+            let mut words = runner.split_whitespace();
+            let mut command = Command::new(words.next().expect("FMS_RUN names a command"));
+            command.args(words).arg(path);
+            command
+        }
+        Err(_) => Command::new(path),
+    };
+    let mut child = command
+        .stdin(Stdio::piped())
+        .stdout(Stdio::piped())
+        .stderr(Stdio::null())
+        .spawn()?;
+    let mut stdin = child.stdin.take().expect("it is piped");
+    std::thread::scope(|scope| {
+        // A program may end before it has read an overlong input.
+        scope.spawn(move || {
+            let _ = stdin.write_all(input);
+        });
+        Ok(child.wait_with_output()?.stdout)
+    })
+}
+
+fn u16_at(input: &[u8], at: usize) -> u32 {
+    u32::from(u16::from_be_bytes(input[at..at + 2].try_into().unwrap()))
+}
+
+fn u32_at(input: &[u8], at: usize) -> u32 {
+    u32::from_be_bytes(input[at..at + 4].try_into().unwrap())
+}
+
+fn i32_at(input: &[u8], at: usize) -> i32 {
+    u32_at(input, at) as i32
+}
+
+fn proposal_at(input: &[u8], at: usize) -> Proposal {
+    Proposal {
+        station_class: u32::from(input[at]),
+        zone: u32::from(input[at + 1]),
+        lat: i32_at(input, at + 2),
+        lon: i32_at(input, at + 6),
+    }
+}
+
+/// The question that an input puts, and where its table begins; nothing where it ends before the table or names none.
+fn question(program: &str, input: &[u8]) -> Option<(Question, usize)> {
+    let (question, from): (fn(&[u8]) -> Question, usize) = match (program, input.first()) {
+        ("fm_check", _) => (
+            |input| Question::Check {
+                channel: u16_at(input, 0),
+                proposal: proposal_at(input, 2),
+            },
+            12,
+        ),
+        ("fm_arrange", _) => (
+            |input| Question::Arrange {
+                first: 221,
+                last: 300,
+                proposal: proposal_at(input, 0),
+            },
+            10,
+        ),
+        ("fm_change", Some(b'a')) => (
+            |input| Question::Add {
+                id: u32_at(input, 1),
+                channel: u16_at(input, 5),
+                proposal: proposal_at(input, 7),
+            },
+            17,
+        ),
+        ("fm_change", Some(b'w')) => (
+            |input| Question::Withdraw {
+                id: u32_at(input, 1),
+            },
+            5,
+        ),
+        ("fm_change", Some(b'm')) => (
+            |input| Question::Move {
+                id: u32_at(input, 1),
+                channel: u16_at(input, 5),
+            },
+            7,
+        ),
+        ("fm_study", Some(b'd')) if input.len() == 17 => (
+            |input| Question::Distance {
+                lat1: i32_at(input, 1),
+                lon1: i32_at(input, 5),
+                lat2: i32_at(input, 9),
+                lon2: i32_at(input, 13),
+            },
+            17,
+        ),
+        _ => return None,
+    };
+    (input.len() >= from).then(|| (question(input), from))
+}
+
+/// What a program has to print of an input.
+fn printed(program: &str, input: &[u8]) -> Vec<u8> {
+    let Some((question, from)) = question(program, input) else {
+        return b"refused 1 0\n".to_vec();
+    };
+    let mut image = vec![0; IMAGE];
+    let mut rows = vec![0; ROWS];
+    let answer = naive::ask(&question, &input[from..], &mut image, &mut rows);
+    let count = match answer {
+        Answer::Refused { number, extra } => {
+            return format!("refused {number} {extra}\n").into_bytes()
+        }
+        Answer::Granted(count) => count as usize,
+    };
+    let mut text = match program {
+        "fm_change" => return image[..count].to_vec(),
+        "fm_study" => return format!("{count}\n").into_bytes(),
+        "fm_check" => format!("short {}\n", count / 3),
+        _ => String::new(),
+    };
+    for row in rows[..count].chunks(3) {
+        text.push_str(&format!("{} {} {}\n", row[0], row[1], row[2]));
+    }
+    text.into_bytes()
+}
+
+fn put_proposal(chance: &mut Chance, scene: &Scene, input: &mut Vec<u8>) {
+    let proposal = proposal_in(chance, scene.area);
+    let wrong = chance.from(0, 48);
+    input.push(if wrong == 0 {
+        8
+    } else {
+        proposal.station_class as u8
+    });
+    input.push(if wrong == 1 { 4 } else { proposal.zone as u8 });
+    input.extend(if wrong == 2 { 270_001 } else { proposal.lat }.to_be_bytes());
+    input.extend(if wrong == 3 { -648_001 } else { proposal.lon }.to_be_bytes());
+}
+
+fn put_channel(chance: &mut Chance, input: &mut Vec<u8>) {
+    let channel = if chance.once_in(16) {
+        chance.one_of(&[0, 220, 301, 65_535])
+    } else {
+        chance.from(221, 300) as u16
+    };
+    input.extend(channel.to_be_bytes());
+}
+
+fn put_id(chance: &mut Chance, scene: &Scene, input: &mut Vec<u8>) {
+    let id = if scene.stations.is_empty() || chance.once_in(3) {
+        chance.from(0, 5_000) as u32
+    } else {
+        chance.one_of(&scene.stations).id
+    };
+    input.extend(id.to_be_bytes());
+}
+
+/// An input for a program, at times cut, damaged, too long, or with bytes that mean nothing.
+fn input(chance: &mut Chance, program: &str, turn: usize) -> Vec<u8> {
+    let most = match program {
+        "fm_arrange" => chance.one_of(&[0, 2, 12, 40]),
+        _ => chance.one_of(&[0, 2, 12, 40, 300, 2_000]),
+    };
+    let scene = scene(chance, MANNERS[turn % MANNERS.len()], most);
+    let mut input = Vec::new();
+    match program {
+        "fm_check" => {
+            put_channel(chance, &mut input);
+            put_proposal(chance, &scene, &mut input);
+        }
+        "fm_arrange" => put_proposal(chance, &scene, &mut input),
+        "fm_change" => match chance.from(0, 12) {
+            0 => input.push(chance.from(0, 255) as u8),
+            1..=4 => {
+                input.push(b'w');
+                put_id(chance, &scene, &mut input);
+            }
+            5..=8 => {
+                input.push(b'm');
+                put_id(chance, &scene, &mut input);
+                put_channel(chance, &mut input);
+            }
+            _ => {
+                input.push(b'a');
+                put_id(chance, &scene, &mut input);
+                put_channel(chance, &mut input);
+                put_proposal(chance, &scene, &mut input);
+            }
+        },
+        _ => {
+            input.push(if chance.once_in(12) {
+                chance.from(0, 255) as u8
+            } else {
+                b'd'
+            });
+            for _ in 0..2 {
+                let site = proposal_in(chance, scene.area);
+                input.extend(
+                    if chance.once_in(16) {
+                        -270_001
+                    } else {
+                        site.lat
+                    }
+                    .to_be_bytes(),
+                );
+                input.extend(
+                    if chance.once_in(16) {
+                        648_001
+                    } else {
+                        site.lon
+                    }
+                    .to_be_bytes(),
+                );
+            }
+        }
+    }
+    if program != "fm_study" {
+        let table = scene.table();
+        let number = chance.from(*DAMAGES.start() as i64, 8 * *DAMAGES.end() as i64) as u32;
+        input.extend(if DAMAGES.contains(&number) {
+            damaged(chance, &table, number)
+        } else {
+            table
+        });
+    }
+    match chance.from(0, 31) {
+        0 => input.truncate(chance.from(0, input.len() as i64) as usize),
+        1 => input.truncate(chance.from(0, 20.min(input.len() as i64)) as usize),
+        2 => input.extend([0; 16]),
+        3 => input.resize(input.len().max(65_530) + chance.from(0, 12) as usize, 0),
+        4 => input.resize(70_000 + chance.from(0, 70_000) as usize, 1),
+        _ => {}
+    }
+    input
+}
+
+#[test]
+fn programs_print_what_the_paper_says() {
+    // As `fm` does, by the answer to no input.
+    let runs = |program: &&str| run(program, b"").is_ok_and(|told| told == b"refused 1 0\n");
+    if !PROGRAMS.iter().all(runs) {
+        println!("the programs are not built, or do not run by themselves and FMS_RUN names nothing to run them by");
+        return;
+    }
+    let inputs = std::env::var("FMS_PROGRAMS").map_or(60, |word| word.parse().expect("a number"));
+    for program in PROGRAMS {
+        let mut chance = Chance::new(0x5EED + program.len() as u64);
+        let mut refused = 0;
+        for turn in 0..inputs {
+            let input = input(&mut chance, program, turn);
+            let told = run(program, &input).expect("it starts");
+            let wanted = printed(program, &input);
+            assert!(
+                told == wanted,
+                "{program}, input {turn} of {} bytes: told {:?}, wanted {:?}",
+                input.len(),
+                String::from_utf8_lossy(&told[..told.len().min(200)]),
+                String::from_utf8_lossy(&wanted[..wanted.len().min(200)])
+            );
+            refused += usize::from(told.starts_with(b"refused "));
+        }
+        println!("{program}: {inputs} inputs, {refused} refused");
+    }
+}

@@ -1,0 +1,209 @@
+-- Every refusal is one of the paper's, with its number; so a question is granted exactly when the number is 0. Assumes nothing.
+use mathlib.Core.Path.{_≡_, refl}
+use mathlib.Core.Logic.{_↔_}
+use mathlib.Core.List.{List, [], _∷_}
+use Prim.Native.Nat.{ℕ, _+_, _/_, _<_}
+use native.Mathlib.Omega.{arith}
+use lib.IntN.{ℤ}
+use lib.ListN.{length}
+use Rattle.ground.proofs.Cases.{either}
+use Rattle.refusals.specs.Faults.{Fault, refusal, UnderEightBytes, MarkDiffers, VersionUnknown, SixthByteSet, CountOver, LengthWrong, IdNotAscending, ChannelOutside, ClassOver, FlagsOver, LatitudeOutside, LongitudeOutside, AskedChannel, AskedClass, AskedZone, NotPermitted, AskedSite, IdZero, IdPresent, Short, TableFull, DoesNotFit, IdAbsent, TooFar, NotMovable}
+use Rattle.stations.specs.Image.{stations, numbers, headed, verdict, scan, scanned, stages, then, tableOf, judged, version, count}
+use Rattle.stations.specs.Version.{top}
+use Rattle.stations.specs.Lists.{withId}
+use Rattle.stations.specs.Encode.{encode}
+use Rattle.stations.specs.declared.Station.{Station}
+use Rattle.stations.specs.declared.Judged.{Judged}
+use Rattle.stations.specs.declared.Judged.the-variants.{Table, Refused as Refused′}
+use Rattle.stations.specs.declared.Verdict.{Verdict}
+use Rattle.stations.specs.declared.Verdict.the-variants.{Sound, Faulty}
+use Rattle.desk.specs.Answers.{Outcome, grant, deny, onTable, onAsked, answer}
+use Rattle.desk.specs.Asked.{placeFault, askedFault}
+use Rattle.desk.specs.Questions.{countOf, readOf, distanceOf}
+use Rattle.desk.specs.declared.Answer.{Answer}
+use Rattle.desk.specs.declared.Answer.the-variants.{Granted, Refused}
+use Rattle.changes.specs.Changes.{Change, add, withdraw, move, Decision, allow, refuse, onVerdict, decide, written, changedFor}
+use Rattle.checks.specs.Check.{checkedFor}
+use Rattle.checks.specs.declared.Proposal.{Proposal}
+use Rattle.arrangements.specs.Arrange.{arrangedFor}
+use Rattle.arrangements.specs.declared.Wanted.{Wanted}
+use Rattle.fms.specs.Packed.{Says, Numbered, granted, refused}
+
+-- ---- a verdict
+
+data Found : Verdict → Type 0 where
+  sound : Found Sound
+  fault : (f : Fault) → Found (Faulty (refusal f))
+
+found-then : {v w : Verdict} → Found v → Found w → Found (then v w)
+found-then sound k = k
+found-then (fault f) k = fault f
+
+found-numbers : (s : List ℕ) → Found (numbers s)
+unfolding numbers
+found-numbers s =
+    either Found _ _ _ (λ _. fault VersionUnknown)
+    (λ _. either Found _ _ _ (λ _. fault SixthByteSet)
+    (λ _. either Found _ _ _ (λ _. fault CountOver)
+    (λ _. either Found _ _ _ (λ _. fault LengthWrong) (λ _. sound))))
+
+found-headed : (s : List ℕ) → Found (headed s)
+unfolding headed
+found-headed s = either Found _ _ _ (λ _. fault UnderEightBytes) (λ _. either Found _ _ _ (λ _. fault MarkDiffers) (λ _. found-numbers s))
+
+found-verdict : (t last i : ℕ) (r : Station) → Found (verdict t last i r)
+unfolding verdict
+found-verdict t last i r =
+    either Found _ _ _ (λ _. fault (IdNotAscending i))
+    (λ _. either Found _ _ _ (λ _. fault (ChannelOutside i))
+    (λ _. either Found _ _ _ (λ _. fault (ClassOver i))
+    (λ _. either Found _ _ _ (λ _. fault (FlagsOver i))
+    (λ _. either Found _ _ _ (λ _. fault (LatitudeOutside i))
+    (λ _. either Found _ _ _ (λ _. fault (LongitudeOutside i)) (λ _. sound))))))
+
+found-scan : (t i last : ℕ) (rs : List Station) → Found (scan t i last rs)
+unfolding scan
+found-scan t i last [] = sound
+found-scan t i last (r ∷ rs) = found-then (found-verdict t last i r) (found-scan t (i + 1) (r .id) rs)
+
+found-scanned : (s : List ℕ) → Found (scanned s)
+unfolding scanned
+found-scanned s = found-scan (top (version s)) 0 0 (stations s)
+
+found-asked : (first last class zone : ℕ) (latitude longitude : ℤ) → Found (askedFault first last class zone latitude longitude)
+unfolding askedFault placeFault
+found-asked first last class zone latitude longitude =
+    either Found _ _ _ (λ _. fault AskedChannel)
+    (λ _. either Found _ _ _ (λ _. fault AskedClass)
+    (λ _. either Found _ _ _ (λ _. fault AskedZone)
+    (λ _. either Found _ _ _ (λ _. fault NotPermitted)
+    (λ _. either Found _ _ _ (λ _. fault AskedSite) (λ _. sound)))))
+
+-- ---- a judgement
+
+data Told : Judged → Type 0 where
+  table : (n : ℕ) → Told (Table n)
+  turned : (f : Fault) → Told (Refused′ (refusal f))
+
+told-of : {v : Verdict} (n : ℕ) → Found v → Told (tableOf v n)
+told-of n sound = table n
+told-of n (fault f) = turned f
+
+told-judged : (s : List ℕ) → Told (judged s)
+unfolding judged stages
+told-judged s = told-of (count s) (found-then (found-headed s) (found-then (found-scanned s) sound))
+
+-- ---- a decision
+
+data Decided : Decision → Type 0 where
+  allowed : (rs : List Station) → Decided (allow rs)
+  forbidden : (f : Fault) → Decided (refuse (refusal f))
+
+decided-on : {v : Verdict} {d : Decision} → Found v → Decided d → Decided (onVerdict v d)
+decided-on sound k = k
+decided-on (fault f) k = forbidden f
+
+decided-with : (id : ℕ) (ss : List Station) (none : Decision) (one : Station → Decision) → Decided none → ((r : Station) → Decided (one r)) → Decided (withId id ss none one)
+unfolding withId
+decided-with id [] none one h k = h
+decided-with id (x ∷ xs) none one h k = either Decided _ _ _ (λ _. k x) (λ _. decided-with id xs none one h k)
+
+decided : (ss : List Station) (c : Change) → Decided (decide ss c)
+unfolding decide
+decided ss (add w) =
+    decided-on (found-asked (w .channel) (w .channel) (w .class) (w .zone) (w .latitude) (w .longitude))
+    (either Decided _ _ _ (λ _. forbidden IdZero)
+    (λ _. either Decided _ _ _ (λ _. forbidden (IdPresent _))
+    (λ _. either Decided _ _ _ (λ _. forbidden (Short _))
+    (λ _. either Decided _ _ _ (λ _. forbidden TableFull) (λ _. allowed _)))))
+decided ss (withdraw id) = either Decided _ _ _ (λ _. forbidden IdAbsent) (λ _. allowed _)
+decided ss (move id channel) =
+    either Decided _ _ _ (λ _. forbidden AskedChannel)
+    (λ _. decided-with id ss _ _ (forbidden IdAbsent)
+    (λ r. either Decided _ _ _ (λ _. forbidden (NotMovable _))
+    (λ _. either Decided _ _ _ (λ _. forbidden (Short _)) (λ _. allowed _))))
+
+-- ---- an outcome, and its answer
+
+data Comes : Outcome → Type 0 where
+  given-out : (vs : List ℕ) → Comes (grant vs)
+  denied : (f : Fault) → Comes (deny (refusal f))
+
+on-table : {j : Judged} {o : Outcome} → Told j → Comes o → Comes (onTable j o)
+on-table (table n) k = k
+on-table (turned f) k = denied f
+
+on-asked : {v : Verdict} {o : Outcome} → Found v → Comes o → Comes (onAsked v o)
+on-asked sound k = k
+on-asked (fault f) k = denied f
+
+on-decision : {d : Decision} → Decided d → Comes (written d)
+on-decision (allowed rs) = given-out (encode rs)
+on-decision (forbidden f) = denied f
+
+answered : {o : Outcome} (room : ℕ) → Comes o → Numbered (answer o room)
+answered room (given-out vs) = either Numbered _ _ _ (λ _. refused (DoesNotFit (length vs))) (λ _. granted (length vs))
+answered room (denied f) = refused f
+
+pub numbered-change : (s : List ℕ) (c : Change) (room : ℕ) → Numbered (answer (changedFor s c) room)
+unfolding changedFor
+numbered-change s c room = answered room (on-table (told-judged s) (on-decision (decided (stations s) c)))
+
+pub numbered-check : (s : List ℕ) (p : Proposal) (room : ℕ) → Numbered (answer (checkedFor s p) room)
+unfolding checkedFor
+numbered-check s p room = answered room (on-table (told-judged s) (on-asked (found-asked (p .channel) (p .channel) (p .class) (p .zone) (p .latitude) (p .longitude)) (given-out _)))
+
+pub numbered-arrange : (s : List ℕ) (w : Wanted) (room : ℕ) → Numbered (answer (arrangedFor s w) room)
+unfolding arrangedFor
+numbered-arrange s w room = answered room (on-table (told-judged s) (on-asked (found-asked (w .first) (w .last) (w .class) (w .zone) (w .latitude) (w .longitude)) (given-out _)))
+
+numbered-count : {j : Judged} → Told j → Numbered (countOf j)
+numbered-count (table n) = granted n
+numbered-count (turned f) = refused f
+
+pub numbered-read : (s : List ℕ) → Numbered (readOf s)
+unfolding readOf
+numbered-read s = numbered-count (told-judged s)
+
+pub numbered-distance : (lat1 lon1 lat2 lon2 : ℤ) → Numbered (distanceOf lat1 lon1 lat2 lon2)
+unfolding distanceOf
+numbered-distance lat1 lon1 lat2 lon2 =
+    either Numbered _ _ _ (λ _. refused AskedSite)
+    (λ _. either Numbered _ _ _ (λ _. refused AskedSite)
+    (λ _. either Numbered _ _ _ (λ _. refused TooFar) (λ _. granted _)))
+
+-- ---- granted exactly when the number is 0
+
+above-0 : (fault : Fault) → 0 < refusal fault .number
+above-0 UnderEightBytes = omega arith
+above-0 MarkDiffers = omega arith
+above-0 VersionUnknown = omega arith
+above-0 SixthByteSet = omega arith
+above-0 CountOver = omega arith
+above-0 LengthWrong = omega arith
+above-0 (IdNotAscending i) = omega arith
+above-0 (ChannelOutside i) = omega arith
+above-0 (ClassOver i) = omega arith
+above-0 (FlagsOver i) = omega arith
+above-0 (LatitudeOutside i) = omega arith
+above-0 (LongitudeOutside i) = omega arith
+above-0 AskedChannel = omega arith
+above-0 AskedClass = omega arith
+above-0 AskedZone = omega arith
+above-0 NotPermitted = omega arith
+above-0 AskedSite = omega arith
+above-0 IdZero = omega arith
+above-0 (IdPresent i) = omega arith
+above-0 (Short i) = omega arith
+above-0 TableFull = omega arith
+above-0 (DoesNotFit n) = omega arith
+above-0 IdAbsent = omega arith
+above-0 TooFar = omega arith
+above-0 (NotMovable i) = omega arith
+
+pub granted-exactly : {a : Answer} {r : ℕ} → Numbered a → Says a r → (r / 4294967296 ≡ 0) ↔ ((n : ℕ) × (a ≡ Granted n))
+granted-exactly (granted n) h = (λ _. (n, refl), λ _. h .number)
+granted-exactly (refused f) h = (λ e. absurd (omega (arith, h .number, above-0 f)), λ g. absurd (never (g .0) (g .1)))
+  where
+    never : (n : ℕ) → Refused (refusal f) ≡ Granted n → ⊥
+    never n e = let z : _≡_ {A = ℕ} 0 1 = cc in omega arith
