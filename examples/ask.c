@@ -1,9 +1,10 @@
 /* ask: asks Check for one channel and Arrange for all of 221 to 300 through libfms.a, and prints what the programs
-   fm_check and fm_arrange print.
+   fm_check and fm_arrange print, or fm_study with a station left aside.
 
-       ask TABLE CHANNEL CLASS ZONE LATITUDE LONGITUDE
+       ask TABLE CHANNEL CLASS ZONE LATITUDE LONGITUDE [ASIDE]
 
    The class is a code of 0 to 7 (A, B1, B, C3, C2, C1, C0, C), the zone 1 to 3 (I, I-A, II), the site in seconds of arc.
+   ASIDE is the id of the station that is left aside; 0, or no such word, leaves nobody aside.
    Status: 0 answered, 1 refused, 2 wrong words or no such table, 3 no memory. */
 
 #include "fms.h"
@@ -11,6 +12,10 @@
 #include <errno.h>
 #include <stdio.h>
 #include <stdlib.h>
+
+#if FMS_INTERFACE != 2
+#error "ask.c is written for interface 2 of fms.h"
+#endif
 
 /* One byte more than the longest table, so that a longer file is seen to be too long. */
 static uint8_t table[FMS_TABLE_MOST + 1];
@@ -47,14 +52,14 @@ static long long number(const char *word, long long low, long long high)
 
 int main(int words, char **word)
 {
-    uint32_t channel, station_class, zone, none = 0, *rows;
+    uint32_t channel, station_class, zone, aside, none = 0, *rows;
     int32_t lat, lon;
     size_t length, room;
     uint64_t answer;
     FILE *file;
 
-    if (words != 7) {
-        fprintf(stderr, "ask TABLE CHANNEL CLASS ZONE LATITUDE LONGITUDE\n");
+    if (words != 7 && words != 8) {
+        fprintf(stderr, "ask TABLE CHANNEL CLASS ZONE LATITUDE LONGITUDE [ASIDE]\n");
         return 2;
     }
     channel = (uint32_t)number(word[2], 0, UINT32_MAX);
@@ -62,6 +67,7 @@ int main(int words, char **word)
     zone = (uint32_t)number(word[4], 0, UINT32_MAX);
     lat = (int32_t)number(word[5], INT32_MIN, INT32_MAX);
     lon = (int32_t)number(word[6], INT32_MIN, INT32_MAX);
+    aside = words == 8 ? (uint32_t)number(word[7], 0, UINT32_MAX) : 0;
 
     file = fopen(word[1], "rb");
     if (file == NULL) {
@@ -72,14 +78,14 @@ int main(int words, char **word)
     fclose(file);
 
     /* Check, into a buffer that holds any answer. */
-    answer = fms_check(table, length, channel, station_class, zone, lat, lon, short_rows, FMS_CHECK_MOST);
+    answer = fms_check(table, length, channel, station_class, zone, lat, lon, aside, short_rows, FMS_CHECK_MOST);
     if (fms_number(answer) != FMS_GRANTED)
         return refused(answer);
     printf("short %lu\n", (unsigned long)fms_value(answer) / 3);
     print_rows(short_rows, fms_value(answer));
 
     /* Arrange, first with no room: refusal 22 says exactly how much is needed. */
-    answer = fms_arrange(table, length, 221, 300, station_class, zone, lat, lon, &none, 0);
+    answer = fms_arrange(table, length, 221, 300, station_class, zone, lat, lon, aside, &none, 0);
     if (fms_number(answer) == FMS_GRANTED)
         return 0;
     if (fms_number(answer) != FMS_ROOM)
@@ -90,7 +96,7 @@ int main(int words, char **word)
         fprintf(stderr, "ask: no memory for %lu numbers\n", (unsigned long)room);
         return 3;
     }
-    answer = fms_arrange(table, length, 221, 300, station_class, zone, lat, lon, rows, room);
+    answer = fms_arrange(table, length, 221, 300, station_class, zone, lat, lon, aside, rows, room);
     if (fms_number(answer) != FMS_GRANTED) {
         free(rows);
         return refused(answer);

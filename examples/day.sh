@@ -27,7 +27,11 @@ done <<'DAY'
 ./fm add moved.fms evening.fms 3001 270 C3 II 41-45-12N 046-20-30W
 ./fm check evening.fms 271 A II 41-30-00N 046-00-00W
 ./fm distance 41-45-12N 046-20-30W 40-57-30N 046-10-00W
-./fm withdraw evening.fms tomorrow.fms 1009
+./fm check evening.fms 272 B I 40-34-00N 042-31-00W
+./fm check evening.fms 272 B I 40-34-00N 042-31-00W --aside 1100
+./fm withdraw evening.fms without.fms 1100
+./fm add without.fms tower.fms 1100 272 B I 40-34-00N 042-31-00W
+./fm withdraw tower.fms tomorrow.fms 1009
 ./fm add tomorrow.fms twice.fms 3001 236 C3 II 41-45-12N 046-20-30W || echo "status $?"
 ./fm check tomorrow.fms 236 B II 41-45-12N 046-20-30W || echo "status $?"
 ./fm show tomorrow.fms | sed -n '1p;$p'

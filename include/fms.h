@@ -24,6 +24,9 @@
 #include <stddef.h>
 #include <stdint.h>
 
+/* The number of this interface; a change of what a function takes raises it. */
+#define FMS_INTERFACE 2
+
 #ifdef __cplusplus
 extern "C" {
 #endif
@@ -72,7 +75,8 @@ enum fms_refusal {
     FMS_SHORT = 20,                  /* add, move: short; the first short position */
     FMS_TABLE_FULL = 21,             /* add: the table already holds 2,000 */
     FMS_ROOM = 22,                   /* the answer does not fit; the exact room needed, in elements */
-    FMS_ID_ABSENT = 23,              /* withdraw, move: id absent */
+    FMS_ID_ABSENT = 23,              /* withdraw, move: no station has the id; check, arrange: the nonzero id left aside is
+                                        that of no station */
     FMS_TOO_FAR = 24,                /* distance: over 475 km */
     FMS_NOT_MOVABLE = 25             /* move: fixed, or at or below channel 220; the position */
 };
@@ -109,14 +113,17 @@ uint64_t fms_withdraw(const uint8_t *table, size_t table_len, uint32_t id, uint8
 uint64_t fms_move(const uint8_t *table, size_t table_len, uint32_t id, uint32_t channel, uint8_t *image,
                   size_t image_len);
 
+/* The next two take the id of a station to leave aside, 0 for none, as for a station that changes its own site. The table
+   is judged whole; the answer is then the one that the table without that station would get. */
+
 /* The stations that are short to a proposal, in table order: id, D in km, R in km of each. 0 numbers: acceptable. */
 uint64_t fms_check(const uint8_t *table, size_t table_len, uint32_t channel, uint32_t station_class, uint32_t zone,
-                   int32_t lat, int32_t lon, uint32_t *rows, size_t rows_len);
+                   int32_t lat, int32_t lon, uint32_t aside, uint32_t *rows, size_t rows_len);
 
 /* Every clean arrangement for a new station on first to last: new channel, id moved, its new channel of each; 0 and 0
    where nothing moves. Ascending by new channel, then id, then moved channel. */
 uint64_t fms_arrange(const uint8_t *table, size_t table_len, uint32_t first, uint32_t last, uint32_t station_class,
-                     uint32_t zone, int32_t lat, int32_t lon, uint32_t *rows, size_t rows_len);
+                     uint32_t zone, int32_t lat, int32_t lon, uint32_t aside, uint32_t *rows, size_t rows_len);
 
 #ifdef __cplusplus
 }

@@ -303,6 +303,120 @@ hold "arrange --raw: 80 rows of the empty table" [ "$("$fm" arrange empty.fms C 
 hold "arrange --raw: 584 rows of one station on 260" [ "$("$fm" arrange --raw at260.fms A II 0 0 | wc -l)" -eq 584 ]
 hold "arrange --raw: 73 rows of a fixed one" [ "$("$fm" arrange --raw three.fms A II 0 0 | wc -l)" -eq 73 ]
 
+# ---- a station left aside
+for words in '--aside 7 check one.fms 250 A II 0 3702' 'check --aside 7 one.fms 250 A II 0 3702' 'check one.fms 250 A --aside 7 II 0 3702' \
+    'check one.fms 250 A II 0 --aside 00007 3702' 'check one.fms 250 A II 0 3702 --aside 7'; do
+    # shellcheck disable=SC2086
+    try 0 $words <<'SAYS'
+Nothing is short: channel 250 is acceptable for class A in zone II at 00-00-00N 001-01-42E.
+Station 7 was left aside, as if it were not in the table.
+Its old record must be withdrawn before the new one can be added.
+SAYS
+done
+try 0 check three.fms 299 C II -269999 647999 --aside 9 <<'SAYS'
+Channel 299 is not acceptable for class C in zone II at 74-59-59S 179-59-59E:
+1 station is short.
+  station 4294967295 on 300 (class C)  is   0 km away and should be 241 km: short by 241 km
+Station 9 was left aside, as if it were not in the table.
+Its old record must be withdrawn before the new one can be added.
+SAYS
+try 0 check three.fms --aside 4294967295 299 C II -269999 647999 <<'SAYS'
+Nothing is short: channel 299 is acceptable for class C in zone II at 74-59-59S 179-59-59E.
+Station 4294967295 was left aside, as if it were not in the table.
+Its old record must be withdrawn before the new one can be added.
+SAYS
+try 0 arrange at260.fms A I 0 0 --aside 7 <<'SAYS'
+Class A in zone I at 00-00-00N 000-00-00E: of 80 channels
+80 are free, 0 open by one move, 0 are shut.
+
+             1 2 3 4 5  6 7 8 9 0
+  221-230    o o o o o  o o o o o
+  231-240    o o o o o  o o o o o
+  241-250    o o o o o  o o o o o
+  251-260    o o o o o  o o o o o
+  261-270    o o o o o  o o o o o
+  271-280    o o o o o  o o o o o
+  281-290    o o o o o  o o o o o
+  291-300    o o o o o  o o o o o
+
+  o free   + opens by one move   . shut
+
+Free: 221-300.
+
+Station 7 was left aside, as if it were not in the table.
+Its old record must be withdrawn before the new one can be added.
+SAYS
+try 0 check --aside 7 at260.fms 260 A I 0 0 --raw <<'SAYS'
+short 0
+SAYS
+hold "arrange --aside --raw: 80 rows of one station left aside" [ "$("$fm" --raw arrange --aside 7 at260.fms A I 0 0 | sort -u | grep -c '^[0-9][0-9]* 0 0$')" -eq 80 ]
+for words in 'check one.fms 250 A II 0 3702' 'check one.fms 250 A II 0 3703' 'arrange at260.fms A I 0 0' 'check three.fms 299 C II 0 0 --raw' 'arrange --raw three.fms A I 0 0'; do
+    # shellcheck disable=SC2086
+    hold "fm $words --aside 0: as without it" [ "$("$fm" $words --aside 0 2>&1)" = "$("$fm" $words 2>&1)" ]
+    # shellcheck disable=SC2086
+    hold "fm --aside 00 $words: as without it" [ "$("$fm" --aside 00 $words 2>&1)" = "$("$fm" $words 2>&1)" ]
+done
+for words in 'check one.fms 250 A II 0 0' 'arrange one.fms A II 0 0'; do
+    for id in 6 8 4294967295; do
+        # shellcheck disable=SC2086
+        try 1 $words --aside "$id" <<SAYS
+fm: refused with number 23: no station of one.fms has id $id. ./fm show lists the ids.
+SAYS
+    done
+    # shellcheck disable=SC2086
+    try 1 $words --aside 8 --raw <<'SAYS'
+refused 23 0
+SAYS
+    for word in seven '' -7 +7 7.0 4294967296; do
+        # shellcheck disable=SC2086
+        try 2 $words --aside "$word" <<SAYS
+fm: '$word' is no id: an id is a whole number of up to 4294967295
+SAYS
+    done
+    for last in --aside '--aside --raw' '--raw --aside'; do
+        # shellcheck disable=SC2086
+        try 2 $words $last <<'SAYS'
+fm: no id follows --aside: give that of the station to leave aside
+SAYS
+    done
+    for twice in '--aside 7 --aside 7' '--aside 0 --aside 7' '--aside 7 --aside'; do
+        # shellcheck disable=SC2086
+        try 2 $words $twice <<'SAYS'
+fm: --aside is given more than once: one station is left aside, or none
+SAYS
+    done
+done
+try 1 check one.fms 250 A II 75-00-01N 0 --aside 8 <<'SAYS'
+fm: refused with number 17: the site is out of range. Latitudes go from 75-00-00S to 75-00-00N, longitudes from 180-00-00W to 180-00-00E.
+SAYS
+try 1 check one.fms 220 A II 0 0 --aside 7 <<'SAYS'
+fm: refused with number 13: channel 220 cannot be asked for. Ask for one of 221 to 300.
+SAYS
+for words in 'add one.fms new.fms 9 250 A II 0 3703' 'withdraw one.fms new.fms 7' 'move one.fms new.fms 7 260' 'distance 0 0 0 0' 'show one.fms' help 'help check'; do
+    for last in '--aside 7' '--aside 0' --aside '--aside 7 --aside 7'; do
+        # shellcheck disable=SC2086
+        try 2 $words $last <<SAYS
+fm: ${words%% *} has no --aside: only check and arrange leave a station aside
+SAYS
+    done
+done
+hold "--aside where it has no place writes nothing" absent new.fms
+try 2 chek --aside 7 <<'SAYS'
+fm: 'chek' is no command: ./fm help lists them
+SAYS
+try 2 check one.fms 250 A II 0 --aside 7 <<'SAYS'
+fm: wrong number of words for check (5, not 6): ./fm check TABLE CHANNEL CLASS ZONE LAT LON
+SAYS
+for words in 'check --aside' 'check --aside seven' 'check --aside 7 --aside 7' 'arrange --aside 7' 'show --aside 7'; do
+    # shellcheck disable=SC2086
+    hold "fm $words --help: --help wins" [ "$("$fm" $words --help)" = "$("$fm" help "${words%% *}")" ]
+done
+for command in check arrange; do
+    hold "fm $command --help: --aside" [ "$("$fm" "$command" --help | grep -c -e '^  --aside  ' -e '(23)\.$')" -eq 2 ]
+done
+hold "fm withdraw --help: no --aside" [ "$("$fm" withdraw --help | grep -c -e --aside)" -eq 0 ]
+hold "fm help: --aside" [ "$("$fm" help | grep -c '^  --aside  ')" -eq 1 ]
+
 # ---- show
 try 0 show empty.fms <<'SAYS'
 0 stations
@@ -475,6 +589,12 @@ SAYS
     try 1 arrange "$2" C I 0 0 <<SAYS
 fm: refused with number $1: $3. $anew
 SAYS
+    try 1 check "$2" 250 A II 0 0 --aside 7 <<SAYS
+fm: refused with number $1: $3. $anew
+SAYS
+    try 1 arrange --aside 8 "$2" A II 0 0 <<SAYS
+fm: refused with number $1: $3. $anew
+SAYS
     try 1 withdraw "$2" new.fms 7 <<SAYS
 fm: refused with number $1: $3. $anew
 SAYS
@@ -558,7 +678,8 @@ hold "no table was touched" [ "$(cksum ./*[!g].fms)" = "$before" ]
 hold "a cut write: status 3" [ $? -eq 3 ]
 hold "a cut write leaves nothing" only folder
 if [ -c /dev/full ] && [ -w /dev/full ]; then
-    for words in 'check one.fms 250 A II 0 0' 'arrange one.fms A II 0 0' 'check --raw one.fms 250 A II 0 0' 'show one.fms' 'distance 0 0 0 1' help 'help check'; do
+    for words in 'check one.fms 250 A II 0 0' 'arrange one.fms A II 0 0' 'check --raw one.fms 250 A II 0 0' 'check one.fms 250 A II 0 0 --aside 7' \
+        'arrange one.fms A II 0 0 --aside 7' 'show one.fms' 'distance 0 0 0 1' help 'help check'; do
         # shellcheck disable=SC2086
         "$fm" $words >/dev/full 2>said </dev/null
         hold "fm $words: status 3 on a full output" [ $? -eq 3 ]
@@ -780,6 +901,20 @@ for line in 'echo hello' 'echo 476' 'echo -1' 'echo 1; echo 2' ':' 'echo refused
 fm: fm_study gave something that is no answer
 SAYS
 done
+for line in 'echo hello' 'echo 475' 'echo short 1' ':' 'echo refused 26 0'; do
+    answers fm_study "$line"
+    try 3 check one.fms 250 A II 0 0 --aside 7 <<'SAYS'
+fm: fm_study gave something that is no answer
+SAYS
+done
+answers fm_study 'echo 301 0 0'
+try 3 arrange one.fms A II 0 0 --aside 7 <<'SAYS'
+fm: fm_study gave something that is no answer
+SAYS
+answers fm_study 'exit 7'
+try 3 arrange one.fms A II 0 0 --aside 7 <<'SAYS'
+fm: fm_study ended with status 7 and gave no answer
+SAYS
 answers fm_change 'printf FMS'
 try 3 withdraw one.fms folder/new.fms 7 <<'SAYS'
 fm: the new table could not be written whole, and folder/new.fms is not there: is the disk full?
@@ -836,6 +971,16 @@ sees '0 250 0 2 0 0 0 0 0 0 0 0' 250 A I-A 0 0
 sees '255 255 0 3 127 255 255 255 128 0 0 0' 65535 A II 2147483647 -2147483648
 sees '0 0 0 3 0 2 61 6 255 251 239 147' 0 A II 40-44-54N 073-59-09W
 sees '1 44 0 3 255 255 255 255 0 0 0 1' 300 A II 00-00-01S 000-00-01E
+# With a station left aside fm_study gets the letter, the id, and then the bytes of the other program; with 0 that program is asked.
+script other/target/bin/fm_study "seen=\$(od -An -v -tu1 -N 17 | tr -s ' \n' ' ')
+[ -n \"\$seen\" ] || { echo refused 1 0; exit; }
+printf '%s' \"\$seen\" >$room/seen
+[ \"\$(printf '%s' \"\$seen\" | sed 's/^ \([0-9]*\).*/\1/')\" = 97 ] || echo short 0"
+sees '99 255 255 255 254 0 250 7 3 127 255 255 255 128 0 0 0' 250 C II 2147483647 -2147483648 --aside 4294967294
+sees '99 0 0 0 7 1 44 0 1 255 255 255 255 0 0 0 1' --aside 7 300 A I 00-00-01S 000-00-01E
+sees '0 250 0 2 0 0 0 0 0 0 0 0' 250 A I-A 0 0 --aside 0
+PATH=$path "$fm" arrange one.fms B I-A 1 -2 --aside 65536 >/dev/null </dev/null
+hold "fm arrange --aside: the bytes are $(cat seen)" [ "$(cat seen)" = ' 97 0 1 0 0 2 2 0 0 0 1 255 255 255 254 70 77 ' ]
 script other/target/bin/fm_study "seen=\$(od -An -v -tu1 | tr -s ' \n' ' ')
 [ -n \"\$seen\" ] || { echo refused 1 0; exit; }
 printf '%s' \"\$seen\" >$room/seen

@@ -40,6 +40,7 @@ extern "C" {
         zone: u32,
         lat: i32,
         lon: i32,
+        aside: u32,
         rows: *mut u32,
         rows_len: usize,
     ) -> u64;
@@ -52,6 +53,7 @@ extern "C" {
         zone: u32,
         lat: i32,
         lon: i32,
+        aside: u32,
         rows: *mut u32,
         rows_len: usize,
     ) -> u64;
@@ -95,6 +97,7 @@ pub fn ask(question: &Question, table: &[u8], image: &mut [u8], rows: &mut [u32]
             Question::Check {
                 channel,
                 proposal: p,
+                aside,
             } => fms_check(
                 table,
                 table_len,
@@ -103,6 +106,7 @@ pub fn ask(question: &Question, table: &[u8], image: &mut [u8], rows: &mut [u32]
                 p.zone,
                 p.lat,
                 p.lon,
+                aside,
                 rows,
                 rows_len,
             ),
@@ -110,6 +114,7 @@ pub fn ask(question: &Question, table: &[u8], image: &mut [u8], rows: &mut [u32]
                 first,
                 last,
                 proposal: p,
+                aside,
             } => fms_arrange(
                 table,
                 table_len,
@@ -119,6 +124,7 @@ pub fn ask(question: &Question, table: &[u8], image: &mut [u8], rows: &mut [u32]
                 p.zone,
                 p.lat,
                 p.lon,
+                aside,
                 rows,
                 rows_len,
             ),

@@ -352,9 +352,27 @@ fn moved(table: &[u8], id: u32, channel: u32) -> Result<Vec<u8>, Refusal> {
     Ok(image_of(&stations))
 }
 
-fn checked(table: &[u8], channel: u32, proposal: &Proposal) -> Result<Vec<u32>, Refusal> {
-    let stations = judge(table)?;
+/// The stations without the one that is left aside; 0 leaves nobody aside.
+fn studied(mut stations: Vec<Station>, aside: u32) -> Result<Vec<Station>, Refusal> {
+    if aside == 0 {
+        return Ok(stations);
+    }
+    let Some(position) = position_of(&stations, aside) else {
+        return refuse(23, 0);
+    };
+    stations.remove(position);
+    Ok(stations)
+}
+
+fn checked(
+    table: &[u8],
+    channel: u32,
+    proposal: &Proposal,
+    aside: u32,
+) -> Result<Vec<u32>, Refusal> {
+    let whole = judge(table)?;
     judge_proposal(channel, channel, proposal)?;
+    let stations = studied(whole, aside)?;
     let new = proposed(0, channel, proposal);
     let mut rows = Vec::new();
     for station in stations {
@@ -368,9 +386,16 @@ fn checked(table: &[u8], channel: u32, proposal: &Proposal) -> Result<Vec<u32>, 
     Ok(rows)
 }
 
-fn arranged(table: &[u8], first: u32, last: u32, proposal: &Proposal) -> Result<Vec<u32>, Refusal> {
-    let stations = judge(table)?;
+fn arranged(
+    table: &[u8],
+    first: u32,
+    last: u32,
+    proposal: &Proposal,
+    aside: u32,
+) -> Result<Vec<u32>, Refusal> {
+    let whole = judge(table)?;
     judge_proposal(first, last, proposal)?;
+    let stations = studied(whole, aside)?;
     let mut rows = Vec::new();
     for channel in first..=last {
         let new = proposed(0, channel, proposal);
@@ -439,14 +464,17 @@ pub fn ask(question: &Question, table: &[u8], image: &mut [u8], rows: &mut [u32]
         } => delivered(added(table, *id, *channel, proposal), image),
         Question::Withdraw { id } => delivered(withdrawn(table, *id), image),
         Question::Move { id, channel } => delivered(moved(table, *id, *channel), image),
-        Question::Check { channel, proposal } => {
-            delivered(checked(table, *channel, proposal), rows)
-        }
+        Question::Check {
+            channel,
+            proposal,
+            aside,
+        } => delivered(checked(table, *channel, proposal, *aside), rows),
         Question::Arrange {
             first,
             last,
             proposal,
-        } => delivered(arranged(table, *first, *last, proposal), rows),
+            aside,
+        } => delivered(arranged(table, *first, *last, proposal, *aside), rows),
     };
     match outcome {
         Ok(count) => Answer::Granted(count),

@@ -34,11 +34,15 @@ pub enum Question {
     Check {
         channel: u32,
         proposal: Proposal,
+        /// The id of the station that is left aside, 0 for none.
+        aside: u32,
     },
     Arrange {
         first: u32,
         last: u32,
         proposal: Proposal,
+        /// As in Check.
+        aside: u32,
     },
 }
 

@@ -488,12 +488,13 @@ impl<const BOX: bool> Lookout<BOX> {
         Some(Reach { band, far })
     }
 
-    /// The channels of 221 to 300 that the others block for a station here that stands at a position of the table.
+    /// The channels of 221 to 300 that the others block for a station here that stands at a position of the table, with one
+    /// position left aside.
     #[inline(never)]
-    fn blocked(&self, records: &[Record], own: usize) -> Channels {
+    fn blocked(&self, records: &[Record], own: usize, aside: usize) -> Channels {
         let mut blocked = 0;
         for (position, record) in walk::<BOX>(records, |record| self.spaced(record, 0)) {
-            if position == own {
+            if position == own || position == aside {
                 continue;
             }
             if let Some(reach) = self.reach(record) {
@@ -565,19 +566,23 @@ fn distance(lat1: i32, lon1: i32, lat2: i32, lon2: i32) -> Outcome<usize> {
     }
 }
 
-/// The stations to which a proposal is short: id, D and R of each.
+/// The stations to which a proposal is short, but for the one left aside: id, D and R of each.
 fn check<const BOX: bool>(
     table: &[u8],
     channel: u32,
     proposal: &Proposal,
+    aside: u32,
     rows: &mut [u32],
 ) -> Outcome<usize> {
     let records = judge::<BOX>(table)?;
     judge_proposal(channel, channel, proposal)?;
+    let aside = left_aside(records, aside)?;
     let held = Held::<BOX>::new(channel, Place::of(proposal));
     let mut found = Vec::with_capacity(32);
-    for (_, record, s, km) in held.short(records) {
-        found.push([id(record), rounded(s), km]);
+    for (position, record, s, km) in held.short(records) {
+        if position != aside {
+            found.push([id(record), rounded(s), km]);
+        }
     }
     let found = found.as_flattened();
     if rows.len() < found.len() {
@@ -590,6 +595,17 @@ fn check<const BOX: bool>(
 /// The position of the record with an id, or the one where it would stand.
 fn sought(records: &[Record], wanted: u32) -> Result<usize, usize> {
     records.binary_search_by_key(&wanted, id)
+}
+
+/// No position of a table.
+const NOWHERE: usize = usize::MAX;
+
+/// The position of the record that is left aside, 23 where there is none with the id; nowhere where nobody is, by id 0.
+fn left_aside(records: &[Record], id: u32) -> Outcome<usize> {
+    if id == 0 {
+        return Ok(NOWHERE);
+    }
+    sought(records, id).map_err(|_| refusal(23, 0))
 }
 
 /// The image of records in three parts.
@@ -727,12 +743,13 @@ fn touched(first: u32, last: u32) -> ByChannel<bool> {
     table
 }
 
-/// The survey of the channels from first to last, from a class and a site.
+/// The survey of the channels from first to last, from a class and a site, with one position left aside.
 #[inline(always)]
 fn survey<const BOX: bool>(
     records: &[Record],
     first: u32,
     last: u32,
+    aside: usize,
     lookout: &Lookout<BOX>,
 ) -> Survey {
     let asked = EVERY >> (300 - last) & EVERY << (first - 221);
@@ -742,6 +759,9 @@ fn survey<const BOX: bool>(
         who: [0; 80],
     };
     let look = |(position, record): (usize, &Record)| {
+        if position == aside {
+            return;
+        }
         if let Some(reach) = lookout.reach(record) {
             survey.mark(reach.around(by_channel(record)) & asked, position);
         }
@@ -764,18 +784,20 @@ enum Plan {
     Moves { id: u32, to: Channels },
 }
 
-/// The clean arrangements: new channel, id moved and its new channel of each.
+/// The clean arrangements, with one station left aside: new channel, id moved and its new channel of each.
 fn arrange<const BOX: bool>(
     table: &[u8],
     first: u32,
     last: u32,
     proposal: &Proposal,
+    aside: u32,
     rows: &mut [u32],
 ) -> Outcome<usize> {
     let records = judge::<BOX>(table)?;
     judge_proposal(first, last, proposal)?;
+    let aside = left_aside(records, aside)?;
     let lookout = Lookout::<BOX>::new(Place::of(proposal));
-    let survey = survey(records, first, last, &lookout);
+    let survey = survey(records, first, last, aside, &lookout);
     let mut plans = [Plan::Nothing; 80];
     let mut need = 0;
     let mut kept = None;
@@ -795,7 +817,7 @@ fn arrange<const BOX: bool>(
                 Some((whose, taken, reach)) if whose == position => (taken, reach),
                 _ => {
                     let there = Lookout::<BOX>::new(Place::at(record));
-                    let taken = there.blocked(records, position);
+                    let taken = there.blocked(records, position, aside);
                     let reach = lookout.reach(record).expect("it stands in the way");
                     kept = Some((position, taken, reach));
                     (taken, reach)
@@ -878,12 +900,14 @@ fn answer<const BOX: bool>(
         Question::Check {
             channel,
             ref proposal,
-        } => check::<BOX>(table, channel, proposal, rows),
+            aside,
+        } => check::<BOX>(table, channel, proposal, aside, rows),
         Question::Arrange {
             first,
             last,
             ref proposal,
-        } => arrange::<BOX>(table, first, last, proposal, rows),
+            aside,
+        } => arrange::<BOX>(table, first, last, proposal, aside, rows),
     };
     Answer::of(match answer {
         Ok(count) => count as u64,

@@ -43,6 +43,15 @@ fn id(chance: &mut Chance, scene: &Scene) -> u32 {
     }
 }
 
+/// An id to leave aside: none, or one of the table, or another one.
+fn aside(chance: &mut Chance, scene: &Scene) -> u32 {
+    if chance.once_in(3) {
+        0
+    } else {
+        id(chance, scene)
+    }
+}
+
 /// The seven questions about one scene.
 fn questions(chance: &mut Chance, scene: &Scene) -> Vec<Question> {
     let (first, last) = match chance.from(0, 5) {
@@ -92,11 +101,13 @@ fn questions(chance: &mut Chance, scene: &Scene) -> Vec<Question> {
         Question::Check {
             channel: channel(chance),
             proposal: new,
+            aside: aside(chance, scene),
         },
         Question::Arrange {
             first,
             last,
             proposal: new,
+            aside: aside(chance, scene),
         },
     ]
 }
@@ -233,25 +244,97 @@ fn twice_damaged_tables() {
     }
 }
 
-/// A table of a region with 2,000 stations: Check on every channel, Arrange over the whole range.
+/// A table of a region with 2,000 stations: Check on every channel, with nobody and with each short station left aside; Arrange over
+/// the whole range, with nobody and with the nearest of them.
 #[test]
 fn a_region_of_2000() {
     let table = region(1, 2_000);
     for proposal in region_proposals(2, 6) {
+        let mut nearest = None;
         for channel in 221..=300 {
-            agree_in(&Question::Check { channel, proposal }, &table, 0, ROWS);
+            let check = |aside| {
+                let question = Question::Check {
+                    channel,
+                    proposal,
+                    aside,
+                };
+                agree_in(&question, &table, 0, ROWS).list().to_vec()
+            };
+            let short = check(0);
+            for (place, row) in short.chunks(3).enumerate() {
+                let others = [&short[..3 * place], &short[3 * place + 3..]].concat();
+                assert_eq!(check(row[0]), others);
+                nearest = nearest.into_iter().chain([(row[1], row[0])]).min();
+            }
         }
-        agree_in(
-            &Question::Arrange {
+        let (_, nearest) = nearest.expect("somebody is short");
+        for aside in [0, nearest] {
+            let question = Question::Arrange {
                 first: 221,
                 last: 300,
                 proposal,
-            },
-            &table,
-            0,
-            ROWS,
-        );
+                aside,
+            };
+            agree_in(&question, &table, 0, ROWS);
+        }
     }
+}
+
+/// What Check and Arrange answer and write with a station left aside is what they do on the table without it, and its withdrawal
+/// is what makes that table; an id that no station has is refused, and 0 is none.
+#[test]
+fn a_station_left_aside() {
+    let mut chance = Chance::new(18);
+    let (mut matters, mut asked) = (0, 0);
+    for turn in 0..150 {
+        let scene = scene(&mut chance, MANNERS[turn % MANNERS.len()], 12);
+        let table = scene.table();
+        let proposal = proposal_in(&mut chance, scene.area);
+        let channel = match scene.stations.first() {
+            Some(station) if chance.once_in(2) => station.channel.max(221),
+            _ => chance.from(221, 300) as u32,
+        };
+        let first = chance.from(221, i64::from(channel)) as u32;
+        let last = chance.from(i64::from(channel), 300) as u32;
+        let questions = |aside| {
+            [
+                Question::Check {
+                    channel,
+                    proposal,
+                    aside,
+                },
+                Question::Arrange {
+                    first,
+                    last,
+                    proposal,
+                    aside,
+                },
+            ]
+        };
+        let whole = questions(0).map(|question| agree(&question, &table));
+        for station in &scene.stations {
+            let without = agree(&Question::Withdraw { id: station.id }, &table);
+            for (place, question) in questions(station.id).iter().enumerate() {
+                let found = agree(question, &table);
+                let expected = agree(&questions(0)[place], without.image());
+                assert_eq!(found.answer, expected.answer, "{question:?}");
+                assert_eq!(found.list(), expected.list(), "{question:?}");
+                matters += usize::from(found.list() != whole[place].list());
+                asked += 1;
+            }
+            let absent = station.id + 1;
+            if scene.stations.iter().all(|other| other.id != absent) {
+                for question in questions(absent) {
+                    let refusal = Answer::Refused {
+                        number: 23,
+                        extra: 0,
+                    };
+                    assert_eq!(agree(&question, &table).answer, refusal);
+                }
+            }
+        }
+    }
+    assert!(matters > 300, "of {asked} answers {matters} are others");
 }
 
 /// One question for the whole range gives the rows of the 80 questions for one channel each.
@@ -262,29 +345,23 @@ fn one_channel_at_a_time() {
         let scene = scene(&mut chance, MANNERS[turn % MANNERS.len()], 60);
         let table = scene.table();
         let proposal = proposal_in(&mut chance, scene.area);
-        let whole = agree(
-            &Question::Arrange {
-                first: 221,
-                last: 300,
+        let aside = match scene.stations.is_empty() || chance.once_in(2) {
+            true => 0,
+            false => chance.one_of(&scene.stations).id,
+        };
+        let arranged = |first, last| {
+            let question = Question::Arrange {
+                first,
+                last,
                 proposal,
-            },
-            &table,
-        );
-        let mut rows = Vec::new();
-        for channel in 221..=300 {
-            rows.extend(
-                agree(
-                    &Question::Arrange {
-                        first: channel,
-                        last: channel,
-                        proposal,
-                    },
-                    &table,
-                )
-                .list(),
-            );
-        }
-        assert_eq!(whole.list(), rows);
+                aside,
+            };
+            agree(&question, &table).list().to_vec()
+        };
+        let one_by_one: Vec<u32> = (221..=300)
+            .flat_map(|channel| arranged(channel, channel))
+            .collect();
+        assert_eq!(arranged(221, 300), one_by_one);
     }
 }
 

@@ -87,17 +87,24 @@ impl Sites {
                 first: asked,
                 last: asked,
                 proposal,
+                aside: 0,
             });
             hold(Question::Add {
                 id: 9,
                 channel: asked,
                 proposal,
             });
-            let found = hold(Question::Check {
-                channel: asked,
-                proposal,
-            });
-            verdicts.push(!found.list().is_empty());
+            let check = |aside| {
+                let question = Question::Check {
+                    channel: asked,
+                    proposal,
+                    aside,
+                };
+                !hold(question).list().is_empty()
+            };
+            // Left aside, the station is short at no distance.
+            assert!(!check(7));
+            verdicts.push(check(0));
         }
         assert!(verdicts.iter().all(|&verdict| verdict == verdicts[0]));
         let Sites {

@@ -24,6 +24,7 @@ fn is_short(class: u32, difference: u32, first: (i32, i32), second: (i32, i32)) 
             let question = Question::Check {
                 channel: asked,
                 proposal,
+                aside: 0,
             };
             verdicts.push(!agree(&question, &table).list().is_empty());
         }
@@ -66,6 +67,7 @@ fn p11() {
     let question = Question::Check {
         channel: 220,
         proposal: class_a(0, 0),
+        aside: 0,
     };
     assert_eq!(
         agree(&question, &table).answer,
@@ -77,6 +79,7 @@ fn p11() {
     let question = Question::Check {
         channel: 221,
         proposal: class_a(0, 0),
+        aside: 0,
     };
     assert_eq!(agree(&question, &table).list(), [7, 0, 72, 8, 0, 72]);
 }
@@ -118,6 +121,7 @@ fn whole_output() {
     let question = Question::Check {
         channel: 250,
         proposal: class_a(0, 3_702),
+        aside: 0,
     };
     assert_eq!(agree(&question, &table).list(), [7, 114, 115]);
 }
@@ -128,6 +132,7 @@ fn arrangements(table: &[u8]) -> Vec<[u32; 3]> {
         first: 221,
         last: 300,
         proposal: class_a(0, 0),
+        aside: 0,
     };
     agree(&question, table)
         .list()
@@ -178,4 +183,88 @@ fn arrange_beside_a_fixed_station() {
     assert!(rows
         .iter()
         .all(|row| row[1] == 0 && row[2] == 0 && !(257..=263).contains(&row[0])));
+}
+
+/// a movable class A station, id 7, on 260 at (0, 0), and a class A proposal there in zone I. With 7 left aside every channel is
+/// free and nothing is short; 8 is absent.
+#[test]
+fn own_change_of_site() {
+    let table = table_of_one(260, A, 0, 0);
+    let proposal = Proposal {
+        zone: 1,
+        ..class_a(0, 0)
+    };
+    let arranged = |aside| {
+        let question = Question::Arrange {
+            first: 221,
+            last: 300,
+            proposal,
+            aside,
+        };
+        agree(&question, &table)
+    };
+    let checked = |channel, aside| {
+        let question = Question::Check {
+            channel,
+            proposal,
+            aside,
+        };
+        agree(&question, &table)
+    };
+    let free: Vec<u32> = (221..=300).flat_map(|channel| [channel, 0, 0]).collect();
+    assert_eq!(arranged(7).list(), free);
+    assert_eq!(arranged(0).list().len(), 3 * 584);
+    for channel in 221..=300 {
+        assert_eq!(checked(channel, 7).list(), []);
+    }
+    assert_eq!(checked(260, 0).list(), [7, 0, 115]);
+    let absent = Answer::Refused {
+        number: 23,
+        extra: 0,
+    };
+    assert_eq!(arranged(8).answer, absent);
+    assert_eq!(checked(260, 8).answer, absent);
+}
+
+/// the record left aside neither blocks, nor moves, nor restrains a station that moves.
+#[test]
+fn a_station_left_aside_restrains_nobody() {
+    let movable = Station {
+        id: 7,
+        channel: 260,
+        class: A,
+        flags: 0,
+        lat: 0,
+        lon: 0,
+    };
+    let other = Station {
+        id: 9,
+        channel: 230,
+        ..movable
+    };
+    let table = image_of(&[movable, other]);
+    let moves = |channel, aside| {
+        let question = Question::Arrange {
+            first: channel,
+            last: channel,
+            proposal: class_a(0, 0),
+            aside,
+        };
+        let rows = agree(&question, &table).list().to_vec();
+        rows.chunks(3)
+            .map(|row| (row[1], row[2]))
+            .collect::<Vec<_>>()
+    };
+    // On 260 station 7 may go to any channel that is spaced from the new one, and from 9 where that one is not left aside.
+    let spaced = |channel: u32, from: u32| !matches!(channel.abs_diff(from), 0..=3 | 53 | 54);
+    let away = |others: &[u32]| {
+        (221..=300)
+            .filter(|&channel| others.iter().all(|&other| spaced(channel, other)))
+            .map(|channel| (7, channel))
+            .collect::<Vec<_>>()
+    };
+    assert_eq!(moves(260, 0), away(&[260, 230]));
+    assert_eq!(moves(260, 9), away(&[260]));
+    assert_eq!(moves(260, 7), [(0, 0)]);
+    assert_eq!(moves(230, 9), [(0, 0)]);
 }

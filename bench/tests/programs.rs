@@ -69,24 +69,30 @@ fn proposal_at(input: &[u8], at: usize) -> Proposal {
     }
 }
 
+/// What fm_check reads from a place on.
+fn check_at(input: &[u8], at: usize, aside: u32) -> Question {
+    Question::Check {
+        channel: u16_at(input, at),
+        proposal: proposal_at(input, at + 2),
+        aside,
+    }
+}
+
+/// What fm_arrange reads from a place on.
+fn arrange_at(input: &[u8], at: usize, aside: u32) -> Question {
+    Question::Arrange {
+        first: 221,
+        last: 300,
+        proposal: proposal_at(input, at),
+        aside,
+    }
+}
+
 /// The question that an input puts, and where its table begins; nothing where it ends before the table or names none.
 fn question(program: &str, input: &[u8]) -> Option<(Question, usize)> {
     let (question, from): (fn(&[u8]) -> Question, usize) = match (program, input.first()) {
-        ("fm_check", _) => (
-            |input| Question::Check {
-                channel: u16_at(input, 0),
-                proposal: proposal_at(input, 2),
-            },
-            12,
-        ),
-        ("fm_arrange", _) => (
-            |input| Question::Arrange {
-                first: 221,
-                last: 300,
-                proposal: proposal_at(input, 0),
-            },
-            10,
-        ),
+        ("fm_check", _) => (|input| check_at(input, 0, 0), 12),
+        ("fm_arrange", _) => (|input| arrange_at(input, 0, 0), 10),
         ("fm_change", Some(b'a')) => (
             |input| Question::Add {
                 id: u32_at(input, 1),
@@ -108,6 +114,8 @@ fn question(program: &str, input: &[u8]) -> Option<(Question, usize)> {
             },
             7,
         ),
+        ("fm_study", Some(b'c')) => (|input| check_at(input, 5, u32_at(input, 1)), 17),
+        ("fm_study", Some(b'a')) => (|input| arrange_at(input, 5, u32_at(input, 1)), 15),
         ("fm_study", Some(b'd')) if input.len() == 17 => (
             |input| Question::Distance {
                 lat1: i32_at(input, 1),
@@ -136,11 +144,11 @@ fn printed(program: &str, input: &[u8]) -> Vec<u8> {
         }
         Answer::Granted(count) => count as usize,
     };
-    let mut text = match program {
-        "fm_change" => return image[..count].to_vec(),
-        "fm_study" => return format!("{count}\n").into_bytes(),
-        "fm_check" => format!("short {}\n", count / 3),
-        _ => String::new(),
+    let mut text = match question {
+        Question::Distance { .. } => return format!("{count}\n").into_bytes(),
+        Question::Check { .. } => format!("short {}\n", count / 3),
+        Question::Arrange { .. } => String::new(),
+        _ => return image[..count].to_vec(),
     };
     for row in rows[..count].chunks(3) {
         text.push_str(&format!("{} {} {}\n", row[0], row[1], row[2]));
@@ -179,66 +187,74 @@ fn put_id(chance: &mut Chance, scene: &Scene, input: &mut Vec<u8>) {
     input.extend(id.to_be_bytes());
 }
 
-/// An input for a program, at times cut, damaged, too long, or with bytes that mean nothing.
-fn input(chance: &mut Chance, program: &str, turn: usize) -> Vec<u8> {
-    let most = match program {
-        "fm_arrange" => chance.one_of(&[0, 2, 12, 40]),
-        _ => chance.one_of(&[0, 2, 12, 40, 300, 2_000]),
-    };
-    let scene = scene(chance, MANNERS[turn % MANNERS.len()], most);
-    let mut input = Vec::new();
+fn put_site(chance: &mut Chance, scene: &Scene, input: &mut Vec<u8>) {
+    let site = proposal_in(chance, scene.area);
+    let (lat, lon) = (chance.once_in(16), chance.once_in(16));
+    input.extend(if lat { -270_001 } else { site.lat }.to_be_bytes());
+    input.extend(if lon { 648_001 } else { site.lon }.to_be_bytes());
+}
+
+/// What stands before the table of an input of a program, and whether a table follows.
+fn put_question(chance: &mut Chance, program: &str, scene: &Scene, input: &mut Vec<u8>) -> bool {
     match program {
         "fm_check" => {
-            put_channel(chance, &mut input);
-            put_proposal(chance, &scene, &mut input);
+            put_channel(chance, input);
+            put_proposal(chance, scene, input);
         }
-        "fm_arrange" => put_proposal(chance, &scene, &mut input),
+        "fm_arrange" => put_proposal(chance, scene, input),
         "fm_change" => match chance.from(0, 12) {
             0 => input.push(chance.from(0, 255) as u8),
             1..=4 => {
                 input.push(b'w');
-                put_id(chance, &scene, &mut input);
+                put_id(chance, scene, input);
             }
             5..=8 => {
                 input.push(b'm');
-                put_id(chance, &scene, &mut input);
-                put_channel(chance, &mut input);
+                put_id(chance, scene, input);
+                put_channel(chance, input);
             }
             _ => {
                 input.push(b'a');
-                put_id(chance, &scene, &mut input);
-                put_channel(chance, &mut input);
-                put_proposal(chance, &scene, &mut input);
+                put_id(chance, scene, input);
+                put_channel(chance, input);
+                put_proposal(chance, scene, input);
             }
         },
         _ => {
-            input.push(if chance.once_in(12) {
+            let letter = if chance.once_in(12) {
                 chance.from(0, 255) as u8
             } else {
-                b'd'
-            });
-            for _ in 0..2 {
-                let site = proposal_in(chance, scene.area);
-                input.extend(
-                    if chance.once_in(16) {
-                        -270_001
-                    } else {
-                        site.lat
-                    }
-                    .to_be_bytes(),
-                );
-                input.extend(
-                    if chance.once_in(16) {
-                        648_001
-                    } else {
-                        site.lon
-                    }
-                    .to_be_bytes(),
-                );
+                chance.one_of(b"ccaad")
+            };
+            input.push(letter);
+            if letter == b'd' || chance.once_in(16) {
+                put_site(chance, scene, input);
+                put_site(chance, scene, input);
+                return chance.once_in(8);
             }
+            if chance.once_in(4) {
+                input.extend([0; 4]);
+            } else {
+                put_id(chance, scene, input);
+            }
+            if letter != b'a' {
+                put_channel(chance, input);
+            }
+            put_proposal(chance, scene, input);
         }
     }
-    if program != "fm_study" {
+    true
+}
+
+/// An input for a program, at times cut, damaged, too long, or with bytes that mean nothing.
+fn input(chance: &mut Chance, program: &str, turn: usize) -> Vec<u8> {
+    let most = match program {
+        "fm_arrange" | "fm_study" => chance.one_of(&[0, 2, 12, 40]),
+        _ => chance.one_of(&[0, 2, 12, 40, 300, 2_000]),
+    };
+    let scene = scene(chance, MANNERS[turn % MANNERS.len()], most);
+    let mut input = Vec::new();
+    if put_question(chance, program, &scene, &mut input) {
         let table = scene.table();
         let number = chance.from(*DAMAGES.start() as i64, 8 * *DAMAGES.end() as i64) as u32;
         input.extend(if DAMAGES.contains(&number) {
@@ -258,12 +274,33 @@ fn input(chance: &mut Chance, program: &str, turn: usize) -> Vec<u8> {
     input
 }
 
+/// Whether the programs are there and run; as `fm` sees it, by the answer to no input.
+fn programs_run() -> bool {
+    let runs = |program: &&str| run(program, b"").is_ok_and(|told| told == b"refused 1 0\n");
+    let all = PROGRAMS.iter().all(runs);
+    if !all {
+        println!("the programs are not built, or do not run by themselves and FMS_RUN names nothing to run them by");
+    }
+    all
+}
+
+/// Holds all that a program prints of an input.
+fn held(program: &str, input: &[u8], name: &str) -> Vec<u8> {
+    let told = run(program, input).expect("it starts");
+    let wanted = printed(program, input);
+    assert!(
+        told == wanted,
+        "{program}, {name} of {} bytes: told {:?}, wanted {:?}",
+        input.len(),
+        String::from_utf8_lossy(&told[..told.len().min(200)]),
+        String::from_utf8_lossy(&wanted[..wanted.len().min(200)])
+    );
+    told
+}
+
 #[test]
 fn programs_print_what_the_paper_says() {
-    // As `fm` does, by the answer to no input.
-    let runs = |program: &&str| run(program, b"").is_ok_and(|told| told == b"refused 1 0\n");
-    if !PROGRAMS.iter().all(runs) {
-        println!("the programs are not built, or do not run by themselves and FMS_RUN names nothing to run them by");
+    if !programs_run() {
         return;
     }
     let inputs = std::env::var("FMS_PROGRAMS").map_or(60, |word| word.parse().expect("a number"));
@@ -272,17 +309,46 @@ fn programs_print_what_the_paper_says() {
         let mut refused = 0;
         for turn in 0..inputs {
             let input = input(&mut chance, program, turn);
-            let told = run(program, &input).expect("it starts");
-            let wanted = printed(program, &input);
-            assert!(
-                told == wanted,
-                "{program}, input {turn} of {} bytes: told {:?}, wanted {:?}",
-                input.len(),
-                String::from_utf8_lossy(&told[..told.len().min(200)]),
-                String::from_utf8_lossy(&wanted[..wanted.len().min(200)])
-            );
+            let told = held(program, &input, &format!("input {turn}"));
             refused += usize::from(told.starts_with(b"refused "));
         }
         println!("{program}: {inputs} inputs, {refused} refused");
+    }
+}
+
+/// fm_study after `c` and `a` and an id: with 0 it prints what fm_check and fm_arrange print, with a present or an absent id what the
+/// naive desk says; cut before the table or in its header it is refused, and so is any other letter.
+#[test]
+fn a_study_of_a_table() {
+    if !programs_run() {
+        return;
+    }
+    let mut chance = Chance::new(19);
+    for turn in 0..6 {
+        let scene = scene(&mut chance, MANNERS[turn % MANNERS.len()], 12);
+        for (letter, program) in [(b'c', "fm_check"), (b'a', "fm_arrange")] {
+            let mut plain = Vec::new();
+            put_question(&mut chance, program, &scene, &mut plain);
+            plain.extend(scene.table());
+            let study = |id: u32| [&[letter][..], &id.to_be_bytes(), &plain].concat();
+            let told = held("fm_study", &study(0), "id 0");
+            assert_eq!(told, run(program, &plain).expect("it starts"));
+            let present = scene.stations.first().map(|station| station.id);
+            for id in present.into_iter().chain([4_999, u32::MAX]) {
+                held("fm_study", &study(id), &format!("id {id}"));
+            }
+            for other in [0, b'b', b'd', b'C', b'A', b'w', 255] {
+                let mut input = study(0);
+                input[0] = other;
+                assert_eq!(held("fm_study", &input, "another letter"), b"refused 1 0\n");
+            }
+            if turn == 0 {
+                let whole = study(present.unwrap_or(7));
+                for length in 0..whole.len().min(26) {
+                    let told = held("fm_study", &whole[..length], "a cut input");
+                    assert!(told.starts_with(b"refused "));
+                }
+            }
+        }
     }
 }

@@ -61,7 +61,8 @@ const STATION: Station = Station {
     lon: 0,
 };
 
-/// The questions on a table, right ones and ones with faults of their own.
+/// The questions on a table, right ones and ones with faults of their own; Check and Arrange with nobody, with the first and the
+/// second record of the table of two, and with an absent id left aside.
 fn questions_on_a_table() -> Vec<Question> {
     let right = class_a(100_000, 100_000);
     let wrong = Proposal {
@@ -80,15 +81,29 @@ fn questions_on_a_table() -> Vec<Question> {
             },
             Question::Withdraw { id },
             Question::Move { id, channel },
-            Question::Check { channel, proposal },
-            Question::Arrange {
-                first: channel,
-                last: channel,
-                proposal,
-            },
         ]);
+        for aside in [0, 7, 8, 9] {
+            questions.extend(studies(channel, proposal, aside));
+        }
     }
     questions
+}
+
+/// Check and Arrange of one channel, with an id left aside.
+fn studies(channel: u32, proposal: Proposal, aside: u32) -> [Question; 2] {
+    [
+        Question::Check {
+            channel,
+            proposal,
+            aside,
+        },
+        Question::Arrange {
+            first: channel,
+            last: channel,
+            proposal,
+            aside,
+        },
+    ]
 }
 
 /// The table is refused with this by every question on a table, before anything of the question's own.
@@ -328,17 +343,12 @@ fn refusal_12() {
 /// A proposal that is refused with this by Check, Arrange and Add, on an empty table and on one of two.
 fn proposal_refused(channel: u32, proposal: Proposal, number: u32) {
     for table in [image_of(&[]), two()] {
-        refused(&Question::Check { channel, proposal }, &table, number, 0);
-        refused(
-            &Question::Arrange {
-                first: channel,
-                last: channel,
-                proposal,
-            },
-            &table,
-            number,
-            0,
-        );
+        // A present id left aside changes nothing, and an absent one comes later in Check and Arrange.
+        for aside in [0, 7, 9] {
+            for question in studies(channel, proposal, aside) {
+                refused(&question, &table, number, 0);
+            }
+        }
         // Faults that come later in Add: id 0, an id that is present, a short station.
         for id in [9, 0, 7] {
             refused(
@@ -396,17 +406,14 @@ fn refusal_13() {
         (0, u32::MAX),
         (301, 220),
     ] {
-        for proposal in [right, wrong] {
-            refused(
-                &Question::Arrange {
-                    first,
-                    last,
-                    proposal,
-                },
-                &two(),
-                13,
-                0,
-            );
+        for (proposal, aside) in [(right, 0), (wrong, 0), (right, 9), (wrong, 9)] {
+            let question = Question::Arrange {
+                first,
+                last,
+                proposal,
+                aside,
+            };
+            refused(&question, &two(), 13, 0);
         }
     }
     for (first, last) in [(221, 221), (300, 300), (221, 300)] {
@@ -414,6 +421,7 @@ fn refusal_13() {
             first,
             last,
             proposal: right,
+            aside: 0,
         };
         granted(&question, &image_of(&[]), 3 * (last - first + 1));
     }
@@ -477,23 +485,9 @@ fn refusal_16() {
                 } else if lat == 270_001 {
                     proposal_refused(250, proposal, 17);
                 } else {
-                    granted(
-                        &Question::Check {
-                            channel: 250,
-                            proposal,
-                        },
-                        &image_of(&[]),
-                        0,
-                    );
-                    granted(
-                        &Question::Arrange {
-                            first: 250,
-                            last: 250,
-                            proposal,
-                        },
-                        &image_of(&[]),
-                        3,
-                    );
+                    for (question, count) in studies(250, proposal, 0).iter().zip([0, 3]) {
+                        granted(question, &image_of(&[]), count);
+                    }
                     granted(
                         &Question::Add {
                             id: 1,
@@ -549,14 +543,8 @@ fn refusal_17() {
         (270_000, -648_000),
         (-270_000, 648_000),
     ] {
-        granted(
-            &Question::Check {
-                channel: 250,
-                proposal: class_a(lat, lon),
-            },
-            &two(),
-            0,
-        );
+        let [check, _] = studies(250, class_a(lat, lon), 0);
+        granted(&check, &two(), 0);
         let question = Question::Distance {
             lat1: lat,
             lon1: lon,
@@ -983,27 +971,28 @@ fn refusal_21() {
 #[test]
 fn refusal_22() {
     // Check: three numbers for each short station.
-    let check = Question::Check {
-        channel: 250,
-        proposal: class_a(0, 0),
-    };
+    let [check, _] = studies(250, class_a(0, 0), 0);
     granted(&check, &image_of(&[]), 0);
     granted(&check, &table_of_one(250, 0, 0, 0), 3);
     granted(&check, &full(STATION), 6_000);
     // Arrange: the paper's counts.
-    let arrange = Question::Arrange {
+    let arrange = |aside| Question::Arrange {
         first: 221,
         last: 300,
         proposal: class_a(0, 0),
+        aside,
     };
-    granted(&arrange, &image_of(&[]), 240);
-    granted(&arrange, &table_of_one(260, 0, 0, 0), 3 * 584);
-    granted(&arrange, &full(STATION), 3 * 73);
-    let one = Question::Arrange {
-        first: 260,
-        last: 260,
-        proposal: class_a(0, 0),
-    };
+    granted(&arrange(0), &image_of(&[]), 240);
+    granted(&arrange(0), &table_of_one(260, 0, 0, 0), 3 * 584);
+    granted(&arrange(0), &full(STATION), 3 * 73);
+    // With a station left aside, the room is that of the table without it.
+    granted(&arrange(7), &table_of_one(260, 0, 0, 0), 240);
+    for aside in [10, 10_000, 20_000] {
+        let [check, _] = studies(250, class_a(0, 0), aside);
+        granted(&check, &full(STATION), 5_997);
+        granted(&arrange(aside), &full(STATION), 3 * 73);
+    }
+    let [_, one] = studies(260, class_a(0, 0), 0);
     granted(&one, &table_of_one(260, 0, 0, 0), 3 * 73);
     granted(
         &one,
@@ -1055,6 +1044,22 @@ fn refusal_23() {
             }
         }
     }
+    // A nonzero id that Check and Arrange should leave aside, before the room that their answers at (0, 0) need.
+    for table in [image_of(&[]), two(), full(STATION)] {
+        for aside in [1, 6, 9, 15, 20_001, u32::MAX] {
+            for lat in [0, 200_000] {
+                for question in studies(250, class_a(lat, 0), aside) {
+                    refused(&question, &table, 23, 0);
+                }
+            }
+        }
+    }
+    // Id 0 leaves nobody aside; with a station left aside the answer is that of the table without it.
+    for (aside, short, arranged) in [(0, 3, 3 * 73), (7, 0, 3), (8, 3, 3 * 73)] {
+        let [check, arrange] = studies(250, class_a(0, 0), aside);
+        granted(&check, &two(), short);
+        granted(&arrange, &two(), arranged);
+    }
     // Withdraw takes a fixed station, and one at or below 220.
     let table = image_of(&[
         Station {
@@ -1076,6 +1081,14 @@ fn refusal_23() {
     ]);
     for id in 1..=3 {
         granted(&Question::Withdraw { id }, &table, 40);
+    }
+    // Check and Arrange leave them aside as well: each is the only one in the way on a channel, and does not move.
+    for (id, channel) in [(1, 250), (2, 254), (3, 221)] {
+        for (aside, short, arranged) in [(0, 3, 0), (id, 0, 3), (id % 3 + 1, 3, 0)] {
+            let [check, arrange] = studies(channel, class_a(0, 0), aside);
+            granted(&check, &table, short);
+            granted(&arrange, &table, arranged);
+        }
     }
 }
 

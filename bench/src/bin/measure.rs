@@ -7,7 +7,7 @@ use std::hint::black_box;
 use std::process::exit;
 
 const USAGE: &str = "usage: measure product|tuned|tuned-box|naive \
-    read|check|arrange|arrange-one-by-one|add|withdraw|move 250|2000 SITES";
+    read|check|check-aside|arrange|arrange-aside|arrange-one-by-one|add|withdraw|move 250|2000 SITES";
 
 /// Who answers.
 fn named(who: &str) -> Option<Ask> {
@@ -25,12 +25,42 @@ fn channels(turn: usize) -> impl Iterator<Item = u32> {
     (0..80).map(move |place| 221 + (7 * turn as u32 + place) % 80)
 }
 
-fn arrange(first: u32, last: u32, proposal: Proposal) -> Question {
+fn check(channel: u32, proposal: Proposal, aside: u32) -> Question {
+    Question::Check {
+        channel,
+        proposal,
+        aside,
+    }
+}
+
+fn arrange(first: u32, last: u32, proposal: Proposal, aside: u32) -> Question {
     Question::Arrange {
         first,
         last,
         proposal,
+        aside,
     }
+}
+
+/// The id of the station nearest to a site, by D, of those that are short on one of some channels; of another where none is.
+fn in_the_way(
+    table: &[u8],
+    channels: impl Iterator<Item = u32>,
+    proposal: Proposal,
+    other: u32,
+) -> u32 {
+    let mut rows = vec![0; 3 * 2_000];
+    let mut nearest = None;
+    for channel in channels {
+        let Answer::Granted(count) =
+            tuned::ask_box(&check(channel, proposal, 0), table, &mut [], &mut rows)
+        else {
+            panic!("every site is one that may be asked about")
+        };
+        let found = rows[..count as usize].chunks_exact(3);
+        nearest = found.map(|row| (row[1], row[0])).chain(nearest).min();
+    }
+    nearest.map_or(other, |(_, id)| id)
 }
 
 /// The first of some changes that is granted.
@@ -43,8 +73,9 @@ fn granted(table: &[u8], mut changes: impl Iterator<Item = Question>) -> Vec<Que
     vec![change.expect("one is granted")]
 }
 
-/// The questions of a workload: one for each site, or 80 where each channel is asked for by itself. Adds, withdrawals and moves
-/// are such as are granted, at places of the table that are evenly spread.
+/// The questions of a workload: one for each site, or 80 where each channel is asked for by itself. A station that is left aside
+/// is the nearest that stands in the way. Adds, withdrawals and moves are such as are granted, at places of the table that are
+/// evenly spread.
 fn questions(what: &str, table: &[u8], sites: &[Proposal]) -> Option<Vec<Question>> {
     let (records, _) = table[8..].as_chunks::<16>();
     let ids: Vec<u32> = records
@@ -56,13 +87,21 @@ fn questions(what: &str, table: &[u8], sites: &[Proposal]) -> Option<Vec<Questio
         let ids = &ids[turn * ids.len() / sites.len()..];
         questions.extend(match what {
             "read" => vec![Question::Read],
-            "check" => channels(turn)
-                .take(1)
-                .map(|channel| Question::Check { channel, proposal })
-                .collect(),
-            "arrange" => vec![arrange(221, 300, proposal)],
+            "check" | "check-aside" => {
+                let channel = channels(turn).next().expect("80 channels");
+                let aside = match what {
+                    "check" => 0,
+                    _ => in_the_way(table, channel..=channel, proposal, ids[0]),
+                };
+                vec![check(channel, proposal, aside)]
+            }
+            "arrange" => vec![arrange(221, 300, proposal, 0)],
+            "arrange-aside" => {
+                let aside = in_the_way(table, 221..=300, proposal, ids[0]);
+                vec![arrange(221, 300, proposal, aside)]
+            }
             "arrange-one-by-one" => (221..=300)
-                .map(|channel| arrange(channel, channel, proposal))
+                .map(|channel| arrange(channel, channel, proposal, 0))
                 .collect(),
             "add" => {
                 let mut pairs = ids.windows(2);

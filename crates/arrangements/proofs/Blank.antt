@@ -6,7 +6,7 @@ use native.Mathlib.Omega.{arith}
 use lib.ListN.{getD, take, drop, replicate, length-replicate}
 use lib.Seq.{getD-take, getD-drop}
 use Rattle.part73.specs.Channels.{lowest, channelCount}
-use Rattle.survey.specs.declared.Channels.{Channels}
+use Rattle.marking.specs.declared.Channels.{Channels}
 use Rattle.planning.specs.Flags.{start, Room, Down}
 
 all-down : (n k : ℕ) → getD (replicate n false) k false ≡ false

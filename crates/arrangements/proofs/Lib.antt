@@ -2,6 +2,5 @@ pub mod Blank
 pub mod Movers
 pub mod Positions
 pub mod Unique
-pub mod Asked
 pub mod Meaning
 pub mod Aside

@@ -24,10 +24,11 @@ use Rattle.stations.specs.declared.Verdict.the-variants.{Sound}
 use Rattle.survey.specs.Ways.{near, onChannel, studied, clear}
 use Rattle.survey.proofs.Studied.{studied-ascend}
 use Rattle.desk.specs.Answers.{grant}
-use Rattle.arrangements.specs.declared.Wanted.{Wanted}
-use Rattle.arrangements.specs.Arrange.{asked, allowed, movesOf, arranged, arrangements, arrangedFor}
+use Rattle.studies.specs.Studies.{asked, termsAsked, studyFault}
+use Rattle.studies.specs.declared.Wanted.{Wanted}
+use Rattle.studies.proofs.Ways.{granted-on}
+use Rattle.arrangements.specs.Arrange.{allowed, movesOf, arranged, arrangements, rowsFor, arrangedFor}
 use Rattle.arrangements.specs.Meaning.{Clear, ClearBut, Move, Arrangement, unmoved, moving, Before}
-use Rattle.arrangements.proofs.Asked.{fault}
 use Rattle.arrangements.proofs.Positions.{clear-cons}
 
 strict : Strict Before
@@ -179,9 +180,9 @@ module _ (km : ℕ → ℕ → ℕ → ℕ) (ss : List Station) where
           one-ascending strict l m (a .ascending) (b .ascending) (λ x. (λ h. b .exactly x .1 (a .exactly x .0 h), λ h. a .exactly x .1 (b .exactly x .0 h)))
 
 -- where table and question pass, the numbers that are granted are those of the one complete list
-pub granted : (s : List ℕ) (w : Wanted) → Accepted s → fault w ≡ Sound → (l : List Row) → Complete tableA (studied (stations s)) (asked w) (w .first) (w .last) l → arrangedFor s w ≡ grant (flat l)
+pub granted : (s : List ℕ) (w : Wanted) → Accepted s → studyFault (stations s) w ≡ Sound → (l : List Row) → Complete tableA (studied (termsAsked w) (stations s)) (asked w) (w .first) (w .last) l → arrangedFor s w ≡ grant (flat l)
 unfolding arrangedFor
 granted s w e q l c =
-    let ss = studied (stations s) in
-    rw (e, q)
-    (ap (λ (l : List Row). grant (flat l)) (only-list tableA ss (asked w) (w .first) (w .last) _ l (complete tableA ss (asked w) (w .first) (w .last) (studied-ascend s (count s) e)) c))
+    let ss = studied (termsAsked w) (stations s) in
+    granted-on s w (rowsFor (asked w) (w .first) (w .last)) e q
+    ∙ ap (λ (l : List Row). grant (flat l)) (only-list tableA ss (asked w) (w .first) (w .last) _ l (complete tableA ss (asked w) (w .first) (w .last) (studied-ascend s (count s) e (termsAsked w))) c)

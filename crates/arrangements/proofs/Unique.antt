@@ -13,10 +13,12 @@ use Rattle.part73.specs.Channels.{lowest, channelCount, newChannels}
 use Rattle.part73.specs.TableA.{tableA}
 use Rattle.spacing.specs.Pair.{sited}
 use Rattle.spacing.specs.declared.Place.{Place}
-use Rattle.stations.specs.Image.{count, Accepted}
-use Rattle.survey.specs.Ways.{everyRecord, studied}
-use Rattle.survey.specs.Marks.{blocks, many, seen, Marked}
-use Rattle.survey.specs.declared.Channels.{Channels}
+use Rattle.stations.specs.Image.{stations, count, Accepted}
+use Rattle.survey.specs.Ways.{looked, studied}
+use Rattle.survey.specs.Walking.{blocks}
+use Rattle.marking.specs.Marks.{many, seen, Marked}
+use Rattle.marking.specs.declared.Channels.{Channels}
+use Rattle.survey.specs.declared.Terms.{Terms}
 use Rattle.survey.proofs.Records.{few}
 use Rattle.planning.specs.Scene.{Scene, scene, sceneOf, allowed}
 use Rattle.planning.specs.Flags.{rowOf, Rowed, Right, Planned}
@@ -85,17 +87,17 @@ rows-all t marks flags channels few w p =
 
 -- ---- the same for the scene of a question
 
-module _ (s : List ℕ) (p : Place) (channels : Channels) {marks : List ℕ} where
-  pub as-new : Marked (λ m j. blocks tableA everyRecord s (sited p m) j) (channels .first) (channels .last) (count s) marks → Marked (sceneOf s p .new) (channels .first) (channels .last) (count s) marks
+module _ (s : List ℕ) (t : Terms) (p : Place) (channels : Channels) {marks : List ℕ} where
+  pub as-new : Marked (λ m j. blocks tableA (looked t) s (sited p m) j) (channels .first) (channels .last) (count s) marks → Marked (sceneOf s t p .new) (channels .first) (channels .last) (count s) marks
   unfolding scene
   as-new w = w
 
-  rows-placed : {flags : List Bool} → count s < many → Marked (sceneOf s p .new) (channels .first) (channels .last) (count s) marks → Planned (sceneOf s p) (channels .first) (suc (channels .last)) flags
-      → allRows (idAt s) marks channels flags ≡ flat (arrangements (sceneOf s p) (channels .first) (channels .last))
+  rows-placed : {flags : List Bool} → count s < many → Marked (sceneOf s t p .new) (channels .first) (channels .last) (count s) marks → Planned (sceneOf s t p) (channels .first) (suc (channels .last)) flags
+      → allRows (idAt s) marks channels flags ≡ flat (arrangements (sceneOf s t p) (channels .first) (channels .last))
   unfolding scene
-  rows-placed {flags} few w q = rows-all (sceneOf s p) marks flags channels few w q
+  rows-placed {flags} few w q = rows-all (sceneOf s t p) marks flags channels few w q
 
-  pub rows-of : {flags : List Bool} → Accepted s → Marked (sceneOf s p .new) (channels .first) (channels .last) (count s) marks → Planned (sceneOf s p) (channels .first) (suc (channels .last)) flags
-      → allRows (idAt s) marks channels flags ≡ rowsFor s (sited p) (channels .first) (channels .last)
+  pub rows-of : {flags : List Bool} → Accepted s → Marked (sceneOf s t p .new) (channels .first) (channels .last) (count s) marks → Planned (sceneOf s t p) (channels .first) (suc (channels .last)) flags
+      → allRows (idAt s) marks channels flags ≡ rowsFor (sited p) (channels .first) (channels .last) (studied t (stations s))
   unfolding studied
-  rows-of e w q = rows-placed (omega (arith, few s e)) w q ∙ sym (ap flat (arrangements-at tableA everyRecord s e (sited p) (channels .first) (channels .last)))
+  rows-of e w q = rows-placed (omega (arith, few s e)) w q ∙ sym (ap flat (arrangements-at tableA (looked t) s e (sited p) (channels .first) (channels .last)))

@@ -1,5 +1,6 @@
--- 01, The questions: Arrange, by enumeration. Every new channel of the range; where it is blocked as things stand, every
--- movable station and every channel 221 to 300 but its own; kept where clean. Assumes nothing.
+-- 01, The questions: Arrange; 02, R-1. By enumeration, over the stations that are studied: every new channel of the range;
+-- where it is blocked as things stand, every movable station and every channel 221 to 300 but its own; kept where clean.
+-- Assumes nothing.
 use Prim.Native.Nat.{ℕ, suc, _-_}
 use mathlib.Core.Bool.{Bool, not, cond, _&&_}
 use mathlib.Core.List.{List, [], _∷_, map}
@@ -8,22 +9,13 @@ use Rattle.ground.specs.Lists.{span, each, keep}
 use Rattle.ground.specs.Rows.{Row, row, flat}
 use Rattle.part73.specs.Channels.{newChannels}
 use Rattle.part73.specs.TableA.{tableA}
-use Rattle.spacing.specs.Pair.{Assignment, sited}
-use Rattle.spacing.specs.declared.Place.{Place}
-use Rattle.stations.specs.Image.{stations, judged}
+use Rattle.spacing.specs.Pair.{Assignment}
 use Rattle.stations.specs.Lists.{movable, without, onto}
 use Rattle.stations.specs.declared.Station.{Station}
-use Rattle.survey.specs.Ways.{onChannel, studied, clear}
-use Rattle.desk.specs.Answers.{Outcome, grant, onTable, onAsked}
-use Rattle.desk.specs.Asked.{askedFault}
-use Rattle.arrangements.specs.declared.Wanted.{Wanted}
-
--- the new station's class and site, and the station on each channel
-abbrev pub placeAsked : Wanted → Place
-placeAsked w = record { class = w .class; latitude = w .latitude; longitude = w .longitude }
-
-abbrev pub asked : Wanted → ℕ → Assignment
-asked w = sited (placeAsked w)
+use Rattle.survey.specs.Ways.{onChannel, clear}
+use Rattle.desk.specs.Answers.{Outcome}
+use Rattle.studies.specs.Studies.{asked, study}
+use Rattle.studies.specs.declared.Wanted.{Wanted}
 
 -- with the new station in place r may go to m: it is movable, m is not its own channel, and neither the moved station nor
 -- the new one is short to anybody, each other included
@@ -47,13 +39,10 @@ module _ (km : ℕ → ℕ → ℕ → ℕ) (new : ℕ → Assignment) (ss : Lis
   unfoldable pub arrangements : ℕ → ℕ → List Row
   arrangements first last = each arranged (span first (suc last - first))
 
--- the numbers of the rows of a table, by Table A
-abbrev pub rowsFor : List ℕ → (ℕ → Assignment) → ℕ → ℕ → List ℕ
-rowsFor s new first last = flat (arrangements tableA new (studied (stations s)) first last)
+-- their numbers, by Table A
+abbrev pub rowsFor : (ℕ → Assignment) → ℕ → ℕ → List Station → List ℕ
+rowsFor new first last ss = flat (arrangements tableA new ss first last)
 
 -- the outcome of the question
 unfoldable pub arrangedFor : List ℕ → Wanted → Outcome
-arrangedFor s w =
-    onTable (judged s)
-    (onAsked (askedFault (w .first) (w .last) (w .class) (w .zone) (w .latitude) (w .longitude))
-    (grant (rowsFor s (asked w) (w .first) (w .last))))
+arrangedFor s w = study s w (rowsFor (asked w) (w .first) (w .last))

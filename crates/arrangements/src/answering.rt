@@ -1,12 +1,16 @@
 // The answer to a question that passed: the survey, the moves, the rows.
 ghost use Rattle.spacing.specs.Pair.{sited};
+ghost use Rattle.stations.specs.Image.{stations};
+ghost use Rattle.survey.specs.Ways.{studied};
+ghost use Rattle.studies.specs.Passed.{Passed};
 ghost use Rattle.desk.specs.Answers.{grant, Answered};
 ghost use Rattle.arrangements.specs.Arrange.{rowsFor};
-ghost use Rattle.arrangements.specs.Answering.{Question, Flagged};
+ghost use Rattle.arrangements.specs.Answering.{Flagged};
 use desk::Answer;
+use marking::Channels;
 use part73::CHANNEL_COUNT;
 use spacing::Place;
-use survey::Channels;
+use survey::Terms;
 
 // So many new channels take a short list of flags.
 const FEW: usize = 8;
@@ -18,30 +22,37 @@ const ALL_FLAGS: usize = CHANNEL_COUNT * CHANNEL_COUNT;
 // The answer, by flags that are lent, all down.
 fn list_with(
     table: &[u8],
+    terms: Terms,
     place: Place,
     channels: Channels,
     moves: &mut [bool],
     rows: &mut [u32],
 ) -> Answer
     requires { ⌜ Flagged (now table) place channels (now moves) ⌝ }
-    ensures { λ r. ⌜ Answered (grant (rowsFor (now (table .entry)) (sited place) (channels .first) (channels .last))) (now (rows .entry)) (now (rows .exit)) r ⌝ }
+    ensures { λ r. ⌜ Answered (grant (rowsFor (sited place) (channels .first) (channels .last) (studied terms (stations (now (table .entry)))))) (now (rows .entry)) (now (rows .exit)) r ⌝ }
 {
     let limits = spacing::limits_of(place);
     let mut marks = [0u16; CHANNEL_COUNT];
-    survey::survey(table, place, &limits, channels, &mut marks);
-    planning::plan(table, place, &limits, channels, &marks, moves);
+    survey::survey(table, terms, place, &limits, channels, &mut marks);
+    planning::plan(table, terms, place, &limits, channels, &marks, moves);
     listing::list_if_room(table, channels, &marks, moves, rows)
 }
 
 // The answer, once table and question have passed.
-pub fn list_asked(table: &[u8], place: Place, channels: Channels, rows: &mut [u32]) -> Answer
-    requires { ⌜ Question (now table) place channels ⌝ }
-    ensures { λ r. ⌜ Answered (grant (rowsFor (now (table .entry)) (sited place) (channels .first) (channels .last))) (now (rows .entry)) (now (rows .exit)) r ⌝ }
+pub fn list_asked(
+    table: &[u8],
+    terms: Terms,
+    place: Place,
+    channels: Channels,
+    rows: &mut [u32],
+) -> Answer
+    requires { ⌜ Passed (now table) place channels ⌝ }
+    ensures { λ r. ⌜ Answered (grant (rowsFor (sited place) (channels .first) (channels .last) (studied terms (stations (now (table .entry)))))) (now (rows .entry)) (now (rows .exit)) r ⌝ }
 {
     if channels.last - channels.first < FEW {
         let mut few = [false; FEW_FLAGS];
-        return list_with(table, place, channels, &mut few, rows);
+        return list_with(table, terms, place, channels, &mut few, rows);
     }
     let mut all = [false; ALL_FLAGS];
-    list_with(table, place, channels, &mut all, rows)
+    list_with(table, terms, place, channels, &mut all, rows)
 }

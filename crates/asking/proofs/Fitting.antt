@@ -29,20 +29,22 @@ use Rattle.stations.specs.declared.Judged.the-variants.{Table, Refused as Refus
 use Rattle.stations.specs.declared.Verdict.{Verdict}
 use Rattle.stations.specs.declared.Verdict.the-variants.{Sound, Faulty}
 use Rattle.stations.proofs.Table.{whole, length-stations}
+use Rattle.stations.proofs.Stages.{is-accepted}
 use Rattle.stations.proofs.Back.{length-encode}
 use Rattle.stations.proofs.Fine.{fine-at}
 use Rattle.spacing.specs.Pair.{Assignment, sited}
 use Rattle.spacing.specs.declared.Place.{Place}
-use Rattle.survey.specs.Ways.{everyRecord, studied, near}
+use Rattle.survey.specs.Ways.{looked, studied, near}
+use Rattle.survey.specs.declared.Terms.{Terms}
 use Rattle.desk.specs.Answers.{grant, deny, onTable, onAsked}
-use Rattle.desk.specs.Asked.{askedFault}
-use Rattle.checks.specs.Check.{asked, rowOf, shortRows, checkedFor}
+use Rattle.studies.specs.Studies.{placeAsked, asked as asked′, termsAsked, studyFault, study}
+use Rattle.studies.specs.declared.Wanted.{Wanted}
+use Rattle.checks.specs.Check.{asked, onOne, rowOf, shortRows, rowsFor, checkedFor}
 use Rattle.checks.proofs.Listing.{length-flat}
 use Rattle.planning.specs.Scene.{Scene, scene, sceneOf, allowed}
 use Rattle.planning.proofs.Tallies.{Tally, nobody, lone, several, tally}
-use Rattle.arrangements.specs.Arrange.{placeAsked, asked as asked′, arranged as arranged′, arrangements, rowsFor, arrangedFor}
+use Rattle.arrangements.specs.Arrange.{arranged as arranged′, arrangements, rowsFor as rowsFor′, arrangedFor}
 use Rattle.arrangements.specs.Placed.{clear, movesOf, moves, arranged}
-use Rattle.arrangements.proofs.Asked.{accepted}
 use Rattle.arrangements.proofs.Movers.{Clear, clear-is, moves-of}
 use Rattle.arrangements.proofs.Positions.{arranged-at}
 use Rattle.changes.specs.Changes.{Change, add, withdraw, move, Decision, allow, refuse, entered, decide, written, changedFor}
@@ -61,9 +63,11 @@ granted-by false (Refused′ f) v xs vs e = absurd (never f vs e)
 granted-by false (Table n) (Faulty f) xs vs e = absurd (never f vs e)
 granted-by false (Table n) Sound xs vs e = (n, refl, cc)
 
-granted-way : (k : ℕ) (input : List ℕ) (j : Judged) (v : Verdict) (xs vs : List ℕ) → past k input (onTable j (onAsked v (grant xs))) ≡ grant vs → (n : ℕ) × (j ≡ Table n) × (xs ≡ vs)
-unfolding past given
-granted-way k input j v xs vs e = granted-by (ltb (length input) k) j v xs vs e
+granted-way : (k : ℕ) (input s : List ℕ) (w : Wanted) (numbers : List Station → List ℕ) (vs : List ℕ) → past k input (study s w numbers) ≡ grant vs → Accepted s × (numbers (studied (termsAsked w) (stations s)) ≡ vs)
+unfolding past given study
+granted-way k input s w numbers vs e =
+    let g = granted-by (ltb (length input) k) (judged s) (studyFault (stations s) w) (numbers (studied (termsAsked w) (stations s))) vs e in
+    (is-accepted s (g .0) (g .1), g .2)
 
 -- ---- how many are kept
 
@@ -88,19 +92,17 @@ unfolding shortRows
 few-short a ss h = omega (arith, length-flat (shortRows tableA a ss), length-map (keep (near tableA a) ss) (rowOf tableA a), length-keep (near tableA a) ss)
 
 -- no more are studied than there are
-few-studied : (s : List ℕ) (n : ℕ) → judged s ≡ Table n → length (studied (stations s)) ≤ limit
+few-studied : (s : List ℕ) (t : Terms) → Accepted s → length (studied t (stations s)) ≤ limit
 unfolding studied
-few-studied s n e = let t = whole s n e in omega (arith, t .few, length-stations t, length-keep everyRecord (stations s))
+few-studied s t e = let w = whole s (count s) e in omega (arith, w .few, length-stations w, length-keep (looked t) (stations s))
 
-pub check-fits : (input vs : List ℕ) → checkInput input ≡ grant vs → length vs ≤ 3 * limit
+pub check-fits : (t : Terms) (input vs : List ℕ) → checkInput t input ≡ grant vs → length vs ≤ 3 * limit
 unfolding checkInput checkedFor
-check-fits input vs e =
+check-fits t input vs e =
     let s = drop 12 input in
-    let p = proposalOf input in
-    let v = askedFault (p .channel) (p .channel) (p .class) (p .zone) (p .latitude) (p .longitude) in
-    let xs = flat (shortRows tableA (asked p) (studied (stations s))) in
-    let w = granted-way 12 input (judged s) v xs vs e in
-    omega (arith, few-short (asked p) (studied (stations s)) (few-studied s (w .0) (w .1)), ap length (w .2))
+    let p = proposalOf t input in
+    let w = granted-way 12 input s (onOne p) (rowsFor (asked p)) vs e in
+    omega (arith, few-short (asked p) (studied t (stations s)) (few-studied s t (w .0)), ap length (w .1))
 
 -- ---- Arrange: three numbers for each of the 79 channels that one station may go to
 
@@ -147,28 +149,27 @@ one-channel km new ss c =
     ap (λ (n : ℕ). each (arranged′ km new ss) (span c n)) e ∙ append-nil (arranged′ km new ss c)
 
 -- a movable station is on one of 221 to 300
-in-band : (s : List ℕ) (p : Place) → Accepted s → (i : ℕ) → i < count s → sceneOf s p .movable i ≡ true → (lowest ≤ sceneOf s p .channel i) × (sceneOf s p .channel i ≤ highest)
+in-band : (s : List ℕ) (t : Terms) (p : Place) → Accepted s → (i : ℕ) → i < count s → sceneOf s t p .movable i ≡ true → (lowest ≤ sceneOf s t p .channel i) × (sceneOf s t p .channel i ≤ highest)
 unfolding scene movable
-in-band s p e i h q =
+in-band s t p e i h q =
     let r = stationAt s i in
-    let a = and-was (eqb (r .flags % 2) 0) (ltb 220 (r .channel)) q in
+    let a = and-was (eqb (r .flags % 2) 0) (ltb 220 (r .channel)) (and-was (looked t r) _ q .1) in
     let b = ltb-true 220 (r .channel) (a .1) in
     (omega arith, fine-at s (count s) e i h .high)
 
-few-arranged : (s : List ℕ) (p : Place) (c : ℕ) → Accepted s → length (rowsFor s (sited p) c c) ≤ 3 * (channelCount - 1)
+few-arranged : (s : List ℕ) (t : Terms) (p : Place) (c : ℕ) → Accepted s → length (rowsFor′ (sited p) c c (studied t (stations s))) ≤ 3 * (channelCount - 1)
 unfolding studied scene
-few-arranged s p c e =
-    let ss = keep everyRecord (stations s) in
-    omega (arith, length-flat (arrangements tableA (sited p) ss c c), ap length (one-channel tableA (sited p) ss c ∙ arranged-at tableA everyRecord s e (sited p) c), few-rows (sceneOf s p) c (in-band s p e))
+few-arranged s t p c e =
+    let ss = keep (looked t) (stations s) in
+    omega (arith, length-flat (arrangements tableA (sited p) ss c c), ap length (one-channel tableA (sited p) ss c ∙ arranged-at tableA (looked t) s e (sited p) c), few-rows (sceneOf s t p) c (in-band s t p e))
 
-pub arrange-fits : (channel : ℕ) (input vs : List ℕ) → arrangeInput channel channel input ≡ grant vs → length vs ≤ 3 * (channelCount - 1)
+pub arrange-fits : (channel : ℕ) (t : Terms) (input vs : List ℕ) → arrangeInput channel channel t input ≡ grant vs → length vs ≤ 3 * (channelCount - 1)
 unfolding arrangeInput arrangedFor
-arrange-fits channel input vs e =
+arrange-fits channel t input vs e =
     let s = drop 10 input in
-    let q = wantedOf channel channel input in
-    let v = askedFault channel channel (q .class) (q .zone) (q .latitude) (q .longitude) in
-    let w = granted-way 10 input (judged s) v (rowsFor s (asked′ q) channel channel) vs e in
-    omega (arith, few-arranged s (placeAsked q) channel (accepted s (w .1)), ap length (w .2))
+    let q = wantedOf channel channel t input in
+    let w = granted-way 10 input s q (rowsFor′ (asked′ q) channel channel) vs e in
+    omega (arith, few-arranged s t (placeAsked q) channel (w .0), ap length (w .1))
 
 -- ---- Add, Withdraw, Move: the image of no more stations than a table may have
 

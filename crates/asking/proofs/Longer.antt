@@ -1,4 +1,5 @@
--- An input of more than 65,536 bytes is answered as its first 65,536 are. Assumes nothing.
+-- An input that is longer than any table and what stands before it is answered as its first bytes are: as its first 65,536, or
+-- a few less where a letter and terms stand before it. Assumes nothing.
 use mathlib.Core.Path.{_≡_, sym, ap, _∙_}
 use mathlib.Core.List.{List}
 use Prim.Native.Nat.{ℕ, _+_, _≤_, _<_}
@@ -16,6 +17,8 @@ use Rattle.stations.proofs.Longer.{refused-alike}
 use Rattle.stations.specs.declared.Judged.{Judged}
 use Rattle.stations.specs.declared.Judged.the-variants.{Refused}
 use Rattle.desk.specs.Answers.{Outcome, deny, onTable}
+use Rattle.survey.specs.declared.Terms.{Terms}
+use Rattle.studies.specs.Studies.{study}
 use Rattle.checks.specs.Check.{checkedFor}
 use Rattle.arrangements.specs.Arrange.{arrangedFor}
 use Rattle.changes.specs.Changes.{changedFor}
@@ -25,66 +28,71 @@ use Rattle.asking.specs.Asking.{past, checkInput, arrangeInput, addInput
 abbrev pub most : ℕ
 most = 65536
 
+-- the same, but for the few that may stand before what is asked
+abbrev pub enough : ℕ
+enough = 65500
+
 refused : (k : ℕ) (input : List ℕ) → k ≤ length input → (j : Judged) (f : Refusal) → j ≡ Refused f → (o : Outcome) → past k input (onTable j o) ≡ deny f
 unfolding past given
 refused k input h j f e o = rw (le-ltb (length input) k h, e)
 
-module _ (input : List ℕ) (h : most < length input) where
-  read-long : length (take most input) ≡ most
-  read-long = length-take-le most input (omega arith)
+module _ (m : ℕ) (g : enough ≤ m) (input : List ℕ) (h : m < length input) where
+  read-long : length (take m input) ≡ m
+  read-long = length-take-le m input (omega arith)
 
-  same-front : Alike most (take most input) input
-  same-front = record { at = λ j l. getD-take most input j 0 l }
+  same-front : Alike m (take m input) input
+  same-front = record { at = λ j l. getD-take m input j 0 l }
 
   -- a table after the first k bytes is too long, in the part as in the whole
-  too-long : (k : ℕ) → k ≤ 17 → (o o′ : Outcome) → past k (take most input) (onTable (judged (drop k (take most input))) o) ≡ past k input (onTable (judged (drop k input)) o′)
+  too-long : (k : ℕ) → k ≤ 17 → (o o′ : Outcome) → past k (take m input) (onTable (judged (drop k (take m input))) o) ≡ past k input (onTable (judged (drop k input)) o′)
   too-long k l o o′ =
-      let part = drop k (take most input) in
+      let part = drop k (take m input) in
       let all = drop k input in
-      let a : Alike 8 part all = record { at = λ j m. getD-drop k (take most input) j 0 ∙ same-front .at (k + j) (omega arith) ∙ sym (getD-drop k input j 0) } in
-      let f = refused-alike part all a (omega (arith, limit-small, read-long, length-drop k (take most input))) (omega (arith, limit-small, length-drop k input)) in
-      refused k (take most input) (omega (arith, read-long)) _ (f .0) (f .1) o ∙ sym (refused k input (omega arith) _ (f .0) (f .2) o′)
+      let a : Alike 8 part all = record { at = λ j n. getD-drop k (take m input) j 0 ∙ same-front .at (k + j) (omega arith) ∙ sym (getD-drop k input j 0) } in
+      let f = refused-alike part all a (omega (arith, limit-small, read-long, length-drop k (take m input))) (omega (arith, limit-small, length-drop k input)) in
+      refused k (take m input) (omega (arith, read-long)) _ (f .0) (f .1) o ∙ sym (refused k input (omega arith) _ (f .0) (f .2) o′)
 
-  long-check : checkInput (take most input) ≡ checkInput input
-  unfolding checkInput checkedFor
-  long-check = too-long 12 (omega arith) _ _
+  long-check : (t : Terms) → checkInput t (take m input) ≡ checkInput t input
+  unfolding checkInput checkedFor study
+  long-check t = too-long 12 (omega arith) _ _
 
-  long-arrange : (first last : ℕ) → arrangeInput first last (take most input) ≡ arrangeInput first last input
-  unfolding arrangeInput arrangedFor
-  long-arrange first last = too-long 10 (omega arith) _ _
+  long-arrange : (first last : ℕ) (t : Terms) → arrangeInput first last t (take m input) ≡ arrangeInput first last t input
+  unfolding arrangeInput arrangedFor study
+  long-arrange first last t = too-long 10 (omega arith) _ _
 
-  long-add : addInput (take most input) ≡ addInput input
+  long-add : addInput (take m input) ≡ addInput input
   unfolding addInput changedFor
   long-add = too-long 17 (omega arith) _ _
 
-  long-withdraw : withdrawInput (take most input) ≡ withdrawInput input
+  long-withdraw : withdrawInput (take m input) ≡ withdrawInput input
   unfolding withdrawInput changedFor
   long-withdraw = too-long 5 (omega arith) _ _
 
-  long-move : moveInput (take most input) ≡ moveInput input
+  long-move : moveInput (take m input) ≡ moveInput input
   unfolding moveInput changedFor
   long-move = too-long 7 (omega arith) _ _
 
-  long-change : changeInput (take most input) ≡ changeInput input
+  long-change : changeInput (take m input) ≡ changeInput input
   unfolding changeInput
   long-change = rw (be-alike same-front 1 0 (omega arith), long-add, long-withdraw, long-move)
 
-  long-distance : distanceInput (take most input) ≡ distanceInput input
+  long-distance : distanceInput (take m input) ≡ distanceInput input
   unfolding distanceInput given
-  long-distance = rw (ne-eqb (length (take most input)) 17 (λ e. omega (arith, read-long)), ne-eqb (length input) 17 (λ e. omega arith))
+  long-distance = rw (ne-eqb (length (take m input)) 17 (λ e. omega (arith, read-long)), ne-eqb (length input) 17 (λ e. omega arith))
 
--- the same for any input
-read-part : {A : Type 0} (f : List ℕ → A) → ((input : List ℕ) → most < length input → f (take most input) ≡ f input) → (input : List ℕ) → f (take most input) ≡ f input
-read-part f long input = elim (decLt most (length input)) [ yes h ↦ long input h | no n ↦ ap f (take-all most input (omega arith)) ]
+-- what is read of a long input is what is read of any
+read-part : {A : Type 0} (m : ℕ) (f : List ℕ → A) → ((input : List ℕ) → m < length input → f (take m input) ≡ f input) → (input : List ℕ) → f (take m input) ≡ f input
+read-part m f long input = elim (decLt m (length input)) [ yes h ↦ long input h | no n ↦ ap f (take-all m input (omega arith)) ]
 
-pub read-check : (input : List ℕ) → checkInput (take most input) ≡ checkInput input
-read-check = read-part checkInput long-check
+module _ (m : ℕ) (g : enough ≤ m) where
+  pub read-check : (t : Terms) (input : List ℕ) → checkInput t (take m input) ≡ checkInput t input
+  read-check t = read-part m (checkInput t) (λ input h. long-check m g input h t)
 
-pub read-arrange : (first last : ℕ) (input : List ℕ) → arrangeInput first last (take most input) ≡ arrangeInput first last input
-read-arrange first last = read-part (arrangeInput first last) (λ input h. long-arrange input h first last)
+  pub read-arrange : (first last : ℕ) (t : Terms) (input : List ℕ) → arrangeInput first last t (take m input) ≡ arrangeInput first last t input
+  read-arrange first last t = read-part m (arrangeInput first last t) (λ input h. long-arrange m g input h first last t)
 
-pub read-change : (input : List ℕ) → changeInput (take most input) ≡ changeInput input
-read-change = read-part changeInput long-change
+  pub read-change : (input : List ℕ) → changeInput (take m input) ≡ changeInput input
+  read-change = read-part m changeInput (long-change m g)
 
-pub read-distance : (input : List ℕ) → distanceInput (take most input) ≡ distanceInput input
-read-distance = read-part distanceInput long-distance
+  pub read-distance : (input : List ℕ) → distanceInput (take m input) ≡ distanceInput input
+  read-distance = read-part m distanceInput (long-distance m g)

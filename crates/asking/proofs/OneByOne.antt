@@ -11,16 +11,19 @@ use lib.ListN.{length, drop}
 use borrow.Author.Tests.{le-ltb}
 use Rattle.ground.specs.Guard.{given}
 use Rattle.part73.specs.Channels.{lowest, highest}
-use Rattle.stations.specs.Image.{judged}
+use Rattle.stations.specs.Image.{then, stations, judged}
 use Rattle.stations.specs.declared.Judged.{Judged}
 use Rattle.stations.specs.declared.Judged.the-variants.{Table, Refused as Refused′}
 use Rattle.stations.specs.declared.Verdict.{Verdict}
 use Rattle.stations.specs.declared.Verdict.the-variants.{Sound, Faulty}
-use Rattle.survey.specs.Marks.{Asked}
-use Rattle.survey.specs.declared.Channels.{Channels}
+use Rattle.survey.specs.Ways.{studied}
+use Rattle.marking.specs.Marks.{Asked}
+use Rattle.marking.specs.declared.Channels.{Channels}
+use Rattle.survey.specs.declared.Terms.{Terms}
 use Rattle.desk.specs.Answers.{Outcome, grant, deny, onTable, onAsked}
 use Rattle.desk.specs.Asked.{placeFault, askedFault}
-use Rattle.arrangements.specs.Arrange.{asked, rowsFor, arrangedFor}
+use Rattle.studies.specs.Studies.{asked, asideFault, studyFault, study}
+use Rattle.arrangements.specs.Arrange.{rowsFor, arrangedFor}
 use Rattle.asking.specs.Asking.{endsEarly, past, wantedOf, arrangeInput}
 
 -- new channels that may be asked for are never what is refused
@@ -36,8 +39,8 @@ asked-in {c} r class zone lat lon =
     )
 
 -- the rows of a range
-unfoldable pub rowsOf : List ℕ → ℕ → ℕ → List ℕ
-rowsOf input first last = rowsFor (drop 10 input) (asked (wantedOf first last input)) first last
+unfoldable pub rowsOf : Terms → List ℕ → ℕ → ℕ → List ℕ
+rowsOf t input first last = rowsFor (asked (wantedOf first last t input)) first last (studied t (stations (drop 10 input)))
 
 -- an outcome with other rows
 abbrev pub regrant : List ℕ → Outcome → Outcome
@@ -50,10 +53,10 @@ by-stage false (Refused′ f) v xs ys = refl
 by-stage false (Table n) (Faulty f) xs ys = refl
 by-stage false (Table n) Sound xs ys = refl
 
-pub alike : {c d : Channels} → Asked c → Asked d → (input : List ℕ) → arrangeInput (d .first) (d .last) input ≡ regrant (rowsOf input (d .first) (d .last)) (arrangeInput (c .first) (c .last) input)
-unfolding arrangeInput arrangedFor past given rowsOf
-alike {c} {d} r q input =
+pub alike : {c d : Channels} → Asked c → Asked d → (t : Terms) (input : List ℕ) → arrangeInput (d .first) (d .last) t input ≡ regrant (rowsOf t input (d .first) (d .last)) (arrangeInput (c .first) (c .last) t input)
+unfolding arrangeInput arrangedFor study studyFault past given rowsOf
+alike {c} {d} r q t input =
     let s = drop 10 input in
-    let w = wantedOf (c .first) (c .last) input in
+    let w = wantedOf (c .first) (c .last) t input in
     rw (asked-in r (w .class) (w .zone) (w .latitude) (w .longitude), asked-in q (w .class) (w .zone) (w .latitude) (w .longitude))
-    (by-stage (ltb (length input) 10) (judged s) (placeFault (w .class) (w .zone) (w .latitude) (w .longitude)) (rowsFor s (asked w) (c .first) (c .last)) (rowsFor s (asked w) (d .first) (d .last)))
+    (by-stage (ltb (length input) 10) (judged s) (then (placeFault (w .class) (w .zone) (w .latitude) (w .longitude)) (asideFault (t .aside) (stations s))) (rowsOf t input (c .first) (c .last)) (rowsOf t input (d .first) (d .last)))

@@ -1,5 +1,5 @@
--- 01, The programs: the question that a program's whole input puts. First what is proposed, big-endian, then the table.
--- Assumes nothing.
+-- 01, The programs; 02, R-1: the question that a program's whole input puts. First what is proposed, big-endian, then the
+-- table. Assumes nothing.
 use mathlib.Core.Bool.{not}
 use mathlib.Core.List.{List}
 use Prim.Native.Nat.{ℕ}
@@ -11,13 +11,14 @@ use mir.Val.{toZ}
 use Rattle.ground.specs.Guard.{given}
 use Rattle.wire.specs.Be.{be}
 use Rattle.refusals.specs.Faults.{refusal, UnderEightBytes}
+use Rattle.survey.specs.declared.Terms.{Terms}
 use Rattle.desk.specs.Answers.{Outcome, deny}
 use Rattle.desk.specs.Questions.{distanceOf}
 use Rattle.desk.specs.declared.Answer.{Answer}
 use Rattle.desk.specs.declared.Answer.the-variants.{Refused}
 use Rattle.checks.specs.declared.Proposal.{Proposal}
 use Rattle.checks.specs.Check.{checkedFor}
-use Rattle.arrangements.specs.declared.Wanted.{Wanted}
+use Rattle.studies.specs.declared.Wanted.{Wanted}
 use Rattle.arrangements.specs.Arrange.{arrangedFor}
 use Rattle.changes.specs.declared.Newcomer.{Newcomer}
 use Rattle.changes.specs.Changes.{changedFor, add, withdraw, move}
@@ -34,25 +35,29 @@ endsEarly = deny (refusal UnderEightBytes)
 unfoldable pub past : ℕ → List ℕ → Outcome → Outcome
 past k input o = given (ltb (length input) k) endsEarly o
 
+-- the terms of the programs of 01: nobody is left aside
+abbrev pub plain : Terms
+plain = record { aside = 0 }
+
 -- ---- Check
 
 -- channel 16, class 8, zone 8, latitude 32, longitude 32
-abbrev pub proposalOf : List ℕ → Proposal
-proposalOf s =
-    record { channel = be 2 s 0; class = be 1 s 2; zone = be 1 s 3; latitude = signed s 4; longitude = signed s 8 }
+abbrev pub proposalOf : Terms → List ℕ → Proposal
+proposalOf t s =
+    record { channel = be 2 s 0; class = be 1 s 2; zone = be 1 s 3; latitude = signed s 4; longitude = signed s 8; aside = t .aside }
 
-unfoldable pub checkInput : List ℕ → Outcome
-checkInput input = past 12 input (checkedFor (drop 12 input) (proposalOf input))
+unfoldable pub checkInput : Terms → List ℕ → Outcome
+checkInput t input = past 12 input (checkedFor (drop 12 input) (proposalOf t input))
 
 -- ---- Arrange
 
 -- the same without the channel; the new channels that are asked for are not in the input
-abbrev pub wantedOf : ℕ → ℕ → List ℕ → Wanted
-wantedOf first last s =
-    record { first = first; last = last; class = be 1 s 0; zone = be 1 s 1; latitude = signed s 2; longitude = signed s 6 }
+abbrev pub wantedOf : ℕ → ℕ → Terms → List ℕ → Wanted
+wantedOf first last t s =
+    record { first = first; last = last; class = be 1 s 0; zone = be 1 s 1; latitude = signed s 2; longitude = signed s 6; aside = t .aside }
 
-unfoldable pub arrangeInput : ℕ → ℕ → List ℕ → Outcome
-arrangeInput first last input = past 10 input (arrangedFor (drop 10 input) (wantedOf first last input))
+unfoldable pub arrangeInput : ℕ → ℕ → Terms → List ℕ → Outcome
+arrangeInput first last t input = past 10 input (arrangedFor (drop 10 input) (wantedOf first last t input))
 
 -- ---- Add, Withdraw, Move
 
@@ -80,7 +85,7 @@ changeInput input =
     (given (eqb (be 1 input 0) 109) (moveInput input)
     endsEarly))
 
--- ---- a study
+-- ---- the distance
 
 -- the letter `d`, and two sites: latitude 32, longitude 32; any other letter, or input of another length, is refused as input
 -- that ends early

@@ -2,14 +2,14 @@
 ghost use mathlib.Core.Path.{_≡_};
 ghost use Rattle.desk.specs.Answers.{Answered};
 ghost use Rattle.asking.specs.Asking.{checkInput, arrangeInput, addInput, withdrawInput, moveInput, changeInput, distanceInput, signed, proposalOf, wantedOf, newcomerOf};
-ghost use Rattle.wire.specs.Be.{be};
 ghost use lib.ListN.{length};
-ghost use Prim.Native.Nat.{_+_, _≤_, _<_};
-use arrangements::Wanted;
+ghost use Prim.Native.Nat.{_+_, _≤_};
 use changes::Newcomer;
 use checks::Proposal;
 use desk::Answer;
 use desk::Site;
+use studies::Wanted;
+use survey::Terms;
 
 // The letters that name a change: `a`, `w`, `m`.
 const ADD: u32 = 97;
@@ -28,22 +28,14 @@ fn ends_early() -> Answer
     desk::refused(refusals::UNDER_EIGHT_BYTES)
 }
 
-// The number of 8 bits at a place.
-fn get8(input: &[u8], at: usize) -> u32
-    requires { ⌜ at < length (now input) ⌝ }
-    ensures { λ r. ⌜ r ≡ be 1 (now (input .entry)) at ⌝ }
-{
-    input[at] as u32
-}
-
 // What a check proposes: channel, class, zone, latitude, longitude.
-fn proposal(input: &[u8]) -> Proposal
+fn proposal(input: &[u8], terms: Terms) -> Proposal
     requires { ⌜ 12 ≤ length (now input) ⌝ }
-    ensures { λ r. ⌜ r ≡ proposalOf (now (input .entry)) ⌝ }
+    ensures { λ r. ⌜ r ≡ proposalOf terms (now (input .entry)) ⌝ }
 {
     let channel = wire::get16(input, 0) as u32;
-    let class = get8(input, 2);
-    let zone = get8(input, 3);
+    let class = wire::get8(input, 2);
+    let zone = wire::get8(input, 3);
     let latitude = wire::get_i32(input, 4);
     let longitude = wire::get_i32(input, 8);
     Proposal {
@@ -52,16 +44,17 @@ fn proposal(input: &[u8]) -> Proposal
         zone,
         latitude,
         longitude,
+        aside: terms.aside,
     }
 }
 
 // What is wanted on one new channel: class, zone, latitude, longitude.
-fn wanted(input: &[u8], channel: u32) -> Wanted
+fn wanted(input: &[u8], terms: Terms, channel: u32) -> Wanted
     requires { ⌜ 10 ≤ length (now input) ⌝ }
-    ensures { λ r. ⌜ r ≡ wantedOf channel channel (now (input .entry)) ⌝ }
+    ensures { λ r. ⌜ r ≡ wantedOf channel channel terms (now (input .entry)) ⌝ }
 {
-    let class = get8(input, 0);
-    let zone = get8(input, 1);
+    let class = wire::get8(input, 0);
+    let zone = wire::get8(input, 1);
     let latitude = wire::get_i32(input, 2);
     let longitude = wire::get_i32(input, 6);
     Wanted {
@@ -71,6 +64,7 @@ fn wanted(input: &[u8], channel: u32) -> Wanted
         zone,
         latitude,
         longitude,
+        aside: terms.aside,
     }
 }
 
@@ -81,8 +75,8 @@ fn newcomer(input: &[u8]) -> Newcomer
 {
     let id = wire::get32(input, 1);
     let channel = wire::get16(input, 5) as u32;
-    let class = get8(input, 7);
-    let zone = get8(input, 8);
+    let class = wire::get8(input, 7);
+    let zone = wire::get8(input, 8);
     let latitude = wire::get_i32(input, 9);
     let longitude = wire::get_i32(input, 13);
     Newcomer {
@@ -109,24 +103,24 @@ fn site(input: &[u8], at: usize) -> Site
 }
 
 // Check: 12 bytes, and the table.
-pub fn asked_check(input: &[u8], rows: &mut [u32]) -> Answer
-    ensures { λ r. ⌜ Answered (checkInput (now (input .entry))) (now (rows .entry)) (now (rows .exit)) r ⌝ }
+pub fn asked_check(input: &[u8], terms: Terms, rows: &mut [u32]) -> Answer
+    ensures { λ r. ⌜ Answered (checkInput terms (now (input .entry))) (now (rows .entry)) (now (rows .exit)) r ⌝ }
 {
     if input.len() < 12 {
         return ends_early();
     }
-    let proposed = proposal(input);
+    let proposed = proposal(input, terms);
     checks::check(&input[12..], proposed, rows)
 }
 
 // Arrange, for one new channel: 10 bytes, and the table.
-pub fn asked_arrange(input: &[u8], channel: u32, rows: &mut [u32]) -> Answer
-    ensures { λ r. ⌜ Answered (arrangeInput channel channel (now (input .entry))) (now (rows .entry)) (now (rows .exit)) r ⌝ }
+pub fn asked_arrange(input: &[u8], terms: Terms, channel: u32, rows: &mut [u32]) -> Answer
+    ensures { λ r. ⌜ Answered (arrangeInput channel channel terms (now (input .entry))) (now (rows .entry)) (now (rows .exit)) r ⌝ }
 {
     if input.len() < 10 {
         return ends_early();
     }
-    let asked = wanted(input, channel);
+    let asked = wanted(input, terms, channel);
     arrangements::arrange(&input[10..], asked, rows)
 }
 
@@ -171,7 +165,7 @@ pub fn asked_change(input: &[u8], image: &mut [u8]) -> Answer
     if input.len() == 0 {
         return ends_early();
     }
-    let letter = get8(input, 0);
+    let letter = wire::get8(input, 0);
     if letter == ADD {
         return asked_add(input, image);
     }
@@ -191,7 +185,7 @@ pub fn asked_distance(input: &[u8]) -> Answer
     if input.len() != 17 {
         return ends_early();
     }
-    let letter = get8(input, 0);
+    let letter = wire::get8(input, 0);
     if letter != DISTANCE {
         return ends_early();
     }

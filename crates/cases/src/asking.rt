@@ -3,6 +3,7 @@ use super::chance::below;
 use super::chance::once_in;
 use super::limits::at_limit;
 use super::question::ADD;
+use super::question::MOVE;
 use super::question::Question;
 use super::tables::any_site;
 use super::words::Site;
@@ -127,10 +128,26 @@ fn other_end(state: &mut u64, from: Site, odds: u32) -> Site
     at_limit(state, from, r)
 }
 
-// An id: one of a table of n records whose ids rise by 3 from a number, to add one beside it; or 0, or any.
+// The id left aside: 0, one of a table of n records whose ids rise by 3 from a number, seldom one behind them, or any.
+fn aside_id(state: &mut u64, start: u32, n: u32) -> u32
+    requires { ⌜ n ≤ 2001 ⌝ }
+{
+    if once_in(state, 3) {
+        return 0;
+    }
+    if once_in(state, 16) {
+        return below(state, 4_294_967_295);
+    }
+    std::num::wrapping_add_u32(start, 3 * (below(state, 8 * n + 1) / 8))
+}
+
+// The id of a question: to check or arrange, the one left aside; else one of the table, to add one beside it, or 0, or any.
 fn asked_id(state: &mut u64, kind: u32, start: u32, n: u32) -> u32
     requires { ⌜ n ≤ 2001 ⌝ }
 {
+    if MOVE < kind {
+        return aside_id(state, start, n);
+    }
     if once_in(state, 16) {
         return 0;
     }

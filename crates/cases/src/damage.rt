@@ -123,7 +123,7 @@ fn damaged_twice(state: &mut u64, table: &mut [u8], n: u32, length: usize) -> us
 }
 
 // Damages a table of n records once or twice, and gives its length.
-pub fn damaged(state: &mut u64, table: &mut [u8], n: u32, length: usize) -> usize
+pub(crate) fn damaged(state: &mut u64, table: &mut [u8], n: u32, length: usize) -> usize
     requires { ⌜ (length ≤ 32024) × (n ≤ 2001) ⌝ }
     ensures { λ r. ⌜ r ≤ 32064 ⌝ }
 {

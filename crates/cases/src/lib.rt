@@ -1,10 +1,12 @@
-// Made questions and tables: numbers from a fixed seed, sites at the limits, and damage.
+// The paper's questions, and made questions, tables and runs: numbers from a fixed seed, sites at the limits, and damage.
 mod asking;
 mod chance;
 mod damage;
 mod image;
 mod limits;
+mod paper;
 mod question;
+mod runs;
 mod tables;
 mod words;
 
@@ -13,10 +15,14 @@ pub use asking::made_question;
 pub use chance::SEED;
 pub use chance::below;
 pub use chance::mixed;
-pub use damage::damaged;
 pub use image::Record;
 pub use image::put_header;
 pub use image::put_record;
+pub use paper::aside_question;
+pub use paper::paper_channel;
+pub use paper::paper_question;
+pub use paper::paper_separation;
+pub use paper::put_seven;
 pub use question::ADD;
 pub use question::ARRANGE;
 pub use question::CHECK;
@@ -25,8 +31,8 @@ pub use question::MOVE;
 pub use question::Question;
 pub use question::READ;
 pub use question::WITHDRAW;
-pub use tables::AT_LIMITS;
-pub use tables::LOW;
-pub use tables::SCATTERED;
-pub use tables::made_table;
+pub use runs::Run;
+pub use runs::case_table;
+pub use runs::kind_of;
+pub use runs::run_of;
 pub use words::Site;

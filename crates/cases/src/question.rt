@@ -13,7 +13,7 @@ pub const CHECK: u32 = 5;
 
 pub const ARRANGE: u32 = 6;
 
-// What is asked: which question, and the numbers of all questions; coordinates are words.
+// What is asked: which question, and the numbers of all questions; check and arrange leave the id aside; coordinates are words.
 pub struct Question {
     pub kind: u32,
     pub id: u32,

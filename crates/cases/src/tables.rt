@@ -16,13 +16,13 @@ use super::words::site_at;
 ghost use Prim.Native.Nat.{_≤_, _<_};
 
 // Records at the limits of what is asked and of each other.
-pub const AT_LIMITS: u32 = 0;
+pub(crate) const AT_LIMITS: u32 = 0;
 
-// Records anywhere within some hundred km.
-pub const SCATTERED: u32 = 1;
+// Records anywhere within some hundred km; that of the id that is asked at the limits of what is asked.
+pub(crate) const SCATTERED: u32 = 1;
 
 // Records on channels at or below 220 only.
-pub const LOW: u32 = 2;
+pub(crate) const LOW: u32 = 2;
 
 // An end of a range, or any place within it.
 fn place_within(state: &mut u64, most: u32) -> u32
@@ -147,13 +147,8 @@ fn record_at_limits(state: &mut u64, id: u32, from: Record) -> Record {
     }
 }
 
-// A record within some hundred km of another.
-fn scattered_record(state: &mut u64, id: u32, from: Record, style: u32) -> Record {
-    let channel = if style == LOW {
-        201 + below(state, 20)
-    } else {
-        any_channel(state)
-    };
+// A record on a channel, within some hundred km of another.
+fn scattered_record(state: &mut u64, id: u32, channel: u32, from: Record) -> Record {
     Record {
         id,
         channel,
@@ -163,12 +158,20 @@ fn scattered_record(state: &mut u64, id: u32, from: Record, style: u32) -> Recor
     }
 }
 
-// A record of a style.
-fn made_record(state: &mut u64, id: u32, from: Record, style: u32) -> Record {
+// A record of a style, from what is asked or from another record.
+fn made_record(state: &mut u64, id: u32, asked: Record, from: Record, style: u32) -> Record {
+    if style == LOW {
+        let low = 201 + below(state, 20);
+        return scattered_record(state, id, low, from);
+    }
+    if id == asked.id {
+        return record_at_limits(state, id, asked);
+    }
     if style == AT_LIMITS {
         return record_at_limits(state, id, from);
     }
-    scattered_record(state, id, from, style)
+    let channel = any_channel(state);
+    scattered_record(state, id, channel, from)
 }
 
 // The first of two records, or once in three times the second.
@@ -179,17 +182,24 @@ fn either(state: &mut u64, a: Record, b: Record) -> Record {
     a
 }
 
-// Writes a table of n records whose ids rise by 3 from that of what is asked, and gives its length.
-pub fn made_table(state: &mut u64, asked: Record, n: usize, style: u32, table: &mut [u8]) -> usize
+// Writes a table of n records whose ids rise by 3 from a number, made from what is asked, and gives its length.
+pub(crate) fn made_table(
+    state: &mut u64,
+    asked: Record,
+    start: u32,
+    n: usize,
+    style: u32,
+    table: &mut [u8],
+) -> usize
     requires { ⌜ n ≤ 2001 ⌝ }
     ensures { λ r. ⌜ r ≤ 32024 ⌝ }
 {
     put_header(table, n as u32);
     let mut from = asked;
-    let mut id = asked.id;
+    let mut id = start;
     let mut i: usize = 0;
     while i < n {
-        let record = made_record(state, id, from, style);
+        let record = made_record(state, id, asked, from, style);
         put_record(table, i, record);
         from = either(state, from, record);
         id = std::num::wrapping_add_u32(id, 3);

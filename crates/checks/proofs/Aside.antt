@@ -1,32 +1,31 @@
--- Check of a part of a table: the rows over those of its stations that pass a test are those that the question gives for the
--- table of these stations only. So too with one record left aside. Assumes nothing.
+-- 02, R-1: Check with an id left aside. Assumes nothing.
 use mathlib.Core.Path.{_≡_}
-use mathlib.Core.Bool.{Bool, not}
+use mathlib.Core.Bool.{true}
 use mathlib.Core.List.{List}
 use Prim.Native.Nat.{ℕ}
-use Rattle.ground.specs.Lists.{keep}
-use Rattle.ground.specs.Rows.{flat}
-use Rattle.part73.specs.TableA.{tableA}
+use Rattle.ground.specs.Lists.{some}
 use Rattle.wire.specs.Be.{Bytes}
 use Rattle.stations.specs.Image.{stations, judged}
 use Rattle.stations.specs.Encode.{encode}
 use Rattle.stations.specs.Lists.{hasId, without}
-use Rattle.stations.specs.declared.Station.{Station}
 use Rattle.stations.specs.declared.Judged.the-variants.{Table}
-use Rattle.stations.specs.declared.Verdict.the-variants.{Sound}
-use Rattle.stations.proofs.Parts.{part-image}
-use Rattle.survey.proofs.Studied.{studied-all}
-use Rattle.desk.specs.Answers.{grant}
+use Rattle.desk.specs.Answers.{grant, onTable, onAsked}
 use Rattle.desk.specs.Asked.{askedFault}
-use Rattle.checks.specs.Check.{asked, shortRows, checkedFor}
+use Rattle.studies.proofs.Aside.{study-whole, study-without}
+use Rattle.checks.specs.Check.{asked, onOne, rowsFor, checkedFor}
 use Rattle.checks.specs.declared.Proposal.{Proposal}
 
-module _ (s : List ℕ) (n : ℕ) (e : judged s ≡ Table n) (b : Bytes s) (p : Proposal) (f : askedFault (p .channel) (p .channel) (p .class) (p .zone) (p .latitude) (p .longitude) ≡ Sound) where
-  pub part-checked : (look : Station → Bool) → let rs = keep look (stations s) in checkedFor (encode rs) p ≡ grant (flat (shortRows tableA (asked p) rs))
-  unfolding checkedFor
-  part-checked look = let i = part-image look s b n e in rw (i .0, f, i .1, studied-all (keep look (stations s)))
+-- the same proposal, with nobody left aside
+abbrev pub whole : Proposal → Proposal
+whole p =
+    record { channel = p .channel; class = p .class; zone = p .zone; latitude = p .latitude; longitude = p .longitude; aside = 0 }
 
-  -- the table without the record with an id
-  pub aside-checked : (id : ℕ) → checkedFor (encode (without id (stations s))) p ≡ grant (flat (shortRows tableA (asked p) (without id (stations s))))
-  unfolding without
-  aside-checked id = part-checked (λ x. not (hasId id x))
+-- with an id that stands in the table the outcome is that of the table without its record
+pub aside-checked : (s : List ℕ) → Bytes s → (n : ℕ) → judged s ≡ Table n → (p : Proposal) → some (hasId (p .aside)) (stations s) ≡ true → checkedFor s p ≡ checkedFor (encode (without (p .aside) (stations s))) (whole p)
+unfolding checkedFor
+aside-checked s b n e p h = study-without (onOne p) (rowsFor (asked p)) s b n e h
+
+-- with the id 0 it is that of 01: every station of the table is studied
+pub whole-checked : (s : List ℕ) (p : Proposal) → checkedFor s (whole p) ≡ onTable (judged s) (onAsked (askedFault (p .channel) (p .channel) (p .class) (p .zone) (p .latitude) (p .longitude)) (grant (rowsFor (asked p) (stations s))))
+unfolding checkedFor
+whole-checked s p = study-whole (onOne p) (rowsFor (asked p)) s

@@ -18,8 +18,9 @@ use Rattle.spacing.specs.declared.Place.{Place}
 use Rattle.stations.specs.Image.{stationAt, stations, count, Accepted}
 use Rattle.stations.specs.Version.{limit}
 use Rattle.stations.specs.declared.Station.{Station}
-use Rattle.survey.specs.Ways.{near, everyRecord, studied}
-use Rattle.survey.specs.Marks.{blocks}
+use Rattle.survey.specs.Ways.{near, looked, studied}
+use Rattle.survey.specs.Walking.{blocks}
+use Rattle.survey.specs.declared.Terms.{Terms}
 use Rattle.survey.proofs.Studied.{keep-at}
 use Rattle.nearby.specs.Positions.{shortPositions, Noted}
 use Rattle.checks.specs.Check.{rowOf, shortRows}
@@ -69,17 +70,17 @@ module _ {vs hits : List ℕ} {k : ℕ} (w : Noted vs hits k) where
   pub noted-few : k ≤ limit
   noted-few = omega (arith, w .long, w .many, ap length (w .holds), length-take k hits)
 
--- where these are noted, and every record is looked at
-module _ (s : List ℕ) (e : Accepted s) (p : Assignment) {hits : List ℕ} {k : ℕ} (w : Noted (shortPositions tableA everyRecord s p) hits k) where
+-- where those that are studied are noted
+module _ (s : List ℕ) (e : Accepted s) (t : Terms) (p : Assignment) {hits : List ℕ} {k : ℕ} (w : Noted (shortPositions tableA (looked t) s p) hits k) where
   -- each is one of the table
-  pub position : (t : ℕ) → t < k → getD hits t 0 < count s
+  pub position : (i : ℕ) → i < k → getD hits i 0 < count s
   unfolding shortPositions
-  position t h =
-      let m = in-keep _ (span 0 (count s)) .0 (at-in (shortPositions tableA everyRecord s p) t (omega (arith, w .many))) .0 in
-      let q = sym (getD-take k hits t 0 h) ∙ ap (λ (l : List ℕ). getD l t 0) (w .holds) in
+  position i h =
+      let m = in-keep _ (span 0 (count s)) .0 (at-in (shortPositions tableA (looked t) s p) i (omega (arith, w .many))) .0 in
+      let q = sym (getD-take k hits i 0 h) ∙ ap (λ (l : List ℕ). getD l i 0) (w .holds) in
       omega (arith, q, in-span _ (count s) 0 .0 m .1)
 
   -- their rows are those of the question
-  pub rows-noted : rowsAt s p (take k hits) ≡ shortRows tableA p (studied (stations s))
+  pub rows-noted : rowsAt s p (take k hits) ≡ shortRows tableA p (studied t (stations s))
   unfolding studied
-  rows-noted = rw (w .holds) (sym (rows-at tableA everyRecord s p e))
+  rows-noted = rw (w .holds) (sym (rows-at tableA (looked t) s p e))

@@ -11,17 +11,17 @@ use Rattle.ground.specs.Rows.{Row, flat}
 use Rattle.ground.proofs.Order.{in-keep, in-map, Ascending, By, ascending-keep, ascending-map, strict-by, one-ascending}
 use Rattle.part73.specs.TableA.{tableA}
 use Rattle.spacing.specs.Pair.{Assignment, shortBy}
-use Rattle.stations.specs.Image.{stations, judged}
+use Rattle.stations.specs.Image.{stations, count, Accepted}
 use Rattle.stations.specs.declared.Station.{Station}
-use Rattle.stations.specs.declared.Judged.the-variants.{Table}
 use Rattle.stations.specs.declared.Verdict.the-variants.{Sound}
 use Rattle.survey.specs.Ways.{near, studied}
 use Rattle.survey.proofs.Studied.{studied-ascend}
 use Rattle.desk.specs.Answers.{grant, Answered}
-use Rattle.desk.specs.Asked.{askedFault}
 use Rattle.desk.specs.declared.Answer.{Answer}
 use Rattle.desk.proofs.Answers.{one-answer}
-use Rattle.checks.specs.Check.{asked, rowOf, shortRows, checkedFor}
+use Rattle.studies.specs.Studies.{termsAsked, studyFault}
+use Rattle.studies.proofs.Ways.{granted-on}
+use Rattle.checks.specs.Check.{asked, onOne, rowOf, shortRows, rowsFor, checkedFor}
 use Rattle.checks.specs.Meaning.{Short, ShortRow, Before}
 use Rattle.checks.specs.declared.Proposal.{Proposal}
 
@@ -68,11 +68,13 @@ module _ (km : ℕ → ℕ → ℕ → ℕ) (p : Assignment) where
       only-list l a f =
           one-ascending (strict-by (λ (x : Row). x .a)) l (shortRows km p ss) a rows-ascend (λ x. (λ m. short-listed x .1 (f x .0 m), λ m. f x .1 (short-listed x .0 m)))
 
--- what is granted to a proposal that passes its checks: the one list of the rows of its short stations
-pub granted : (s : List ℕ) (n : ℕ) (p : Proposal) → judged s ≡ Table n → askedFault (p .channel) (p .channel) (p .class) (p .zone) (p .latitude) (p .longitude) ≡ Sound
-    → (l : List Row) → Ascending Before l → ((x : Row) → (x ∈ l) ↔ ShortRow tableA (asked p) (studied (stations s)) x) → checkedFor s p ≡ grant (flat l)
+-- what is granted to a proposal that passes its checks: the one list of the rows of its short stations, of those that are studied
+pub granted : (s : List ℕ) (p : Proposal) → Accepted s → studyFault (stations s) (onOne p) ≡ Sound
+    → (l : List Row) → Ascending Before l → ((x : Row) → (x ∈ l) ↔ ShortRow tableA (asked p) (studied (termsAsked (onOne p)) (stations s)) x) → checkedFor s p ≡ grant (flat l)
 unfolding checkedFor
-granted s n p e f l a h = rw (e, f, only-list tableA (asked p) (studied (stations s)) (studied-ascend s n e) l a h)
+granted s p e q l a h =
+    let t = termsAsked (onOne p) in
+    rw (only-list tableA (asked p) (studied t (stations s)) (studied-ascend s (count s) e t) l a h) (granted-on s (onOne p) (rowsFor (asked p)) e q)
 
 -- two results that meet the promise are equal
 pub one-check : (s : List ℕ) (p : Proposal) {entry exit exit′ : List ℕ} {r r′ : Answer} → Answered (checkedFor s p) entry exit r → Answered (checkedFor s p) entry exit′ r′ → (exit ≡ exit′) × (r ≡ r′)

@@ -1,20 +1,26 @@
--- 01, The questions: Check. Three numbers for each short station, in table order: id, D, R. Assumes nothing.
+-- 01, The questions: Check; 02, R-1. Three numbers for each short station that is studied, in table order: id, D, R.
+-- Assumes nothing.
 use Prim.Native.Nat.{ℕ}
 use mathlib.Core.List.{List, map}
 use Rattle.ground.specs.Lists.{keep}
 use Rattle.ground.specs.Rows.{Row, row, flat}
 use Rattle.part73.specs.TableA.{tableA}
 use Rattle.spacing.specs.Pair.{Assignment, assignment, separation, distanceOf}
-use Rattle.stations.specs.Image.{stations, judged}
 use Rattle.stations.specs.declared.Station.{Station}
-use Rattle.survey.specs.Ways.{asItStands, near, studied}
-use Rattle.desk.specs.Answers.{Outcome, grant, onTable, onAsked}
-use Rattle.desk.specs.Asked.{askedFault}
+use Rattle.survey.specs.Ways.{asItStands, near}
+use Rattle.desk.specs.Answers.{Outcome}
+use Rattle.studies.specs.Studies.{study}
+use Rattle.studies.specs.declared.Wanted.{Wanted}
 use Rattle.checks.specs.declared.Proposal.{Proposal}
 
 -- what is proposed, as a pair is held by it
 abbrev pub asked : Proposal → Assignment
 asked p = assignment (p .channel) (p .class) (p .latitude) (p .longitude)
+
+-- what is wanted of the study: that channel alone
+abbrev pub onOne : Proposal → Wanted
+onOne p =
+    record { first = p .channel; last = p .channel; class = p .class; zone = p .zone; latitude = p .latitude; longitude = p .longitude; aside = p .aside }
 
 -- id, D, R of a station, by a table of separations
 unfoldable pub rowOf : (ℕ → ℕ → ℕ → ℕ) → Assignment → Station → Row
@@ -23,9 +29,10 @@ rowOf km p r = row (r .id) (distanceOf p (asItStands r)) (separation km (p .chan
 unfoldable pub shortRows : (ℕ → ℕ → ℕ → ℕ) → Assignment → List Station → List Row
 shortRows km p ss = map (rowOf km p) (keep (near km p) ss)
 
+-- their numbers, by Table A
+abbrev pub rowsFor : Assignment → List Station → List ℕ
+rowsFor p ss = flat (shortRows tableA p ss)
+
 -- the outcome of the question
 unfoldable pub checkedFor : List ℕ → Proposal → Outcome
-checkedFor s p =
-    onTable (judged s)
-    (onAsked (askedFault (p .channel) (p .channel) (p .class) (p .zone) (p .latitude) (p .longitude))
-    (grant (flat (shortRows tableA (asked p) (studied (stations s))))))
+checkedFor s p = study s (onOne p) (rowsFor (asked p))

@@ -1,11 +1,10 @@
 // Check: the stations that a proposal is short to, each with its D and R.
-ghost use Rattle.ground.specs.Rows.{flat};
-ghost use Rattle.part73.specs.TableA.{tableA};
+ghost use mathlib.Core.Path.{_≡_};
 ghost use Rattle.spacing.specs.Pair.{sited};
 ghost use Rattle.stations.specs.Image.{stations};
 ghost use Rattle.survey.specs.Ways.{studied};
 ghost use Rattle.desk.specs.Answers.{Answered, grant};
-ghost use Rattle.checks.specs.Check.{shortRows, checkedFor};
+ghost use Rattle.checks.specs.Check.{onOne, rowsFor, checkedFor};
 ghost use Rattle.checks.specs.Positions.{Passed};
 
 mod writing;
@@ -15,27 +14,31 @@ use spacing::Place;
 use stations::Judged;
 use stations::LIMIT;
 use stations::Verdict;
+use studies::Wanted;
+use survey::Terms;
 use writing::put_noted;
 
 // No position of a table.
 const NO_POSITION: u16 = LIMIT as u16;
 
-// What is proposed: a station of a class on a channel at a site, in a zone.
+// What is proposed: a station of a class on a channel at a site, in a zone; and the id of the record that is left aside, 0 for
+// none.
 pub struct Proposal {
     pub channel: u32,
     pub class: u32,
     pub zone: u32,
     pub latitude: i32,
     pub longitude: i32,
+    pub aside: u32,
 }
 
 // The rows of a proposal that passed its checks; 22 where they do not fit.
-fn list(table: &[u8], channel: usize, place: Place, rows: &mut [u32]) -> Answer
+fn list(table: &[u8], terms: Terms, channel: usize, place: Place, rows: &mut [u32]) -> Answer
     requires { ⌜ Passed (now table) channel place ⌝ }
-    ensures { λ r. ⌜ Answered (grant (flat (shortRows tableA (sited place channel) (studied (stations (now (table .entry))))))) (now (rows .entry)) (now (rows .exit)) r ⌝ }
+    ensures { λ r. ⌜ Answered (grant (rowsFor (sited place channel) (studied terms (stations (now (table .entry)))))) (now (rows .entry)) (now (rows .exit)) r ⌝ }
 {
     let mut hits = [NO_POSITION; LIMIT];
-    let k = nearby::note_short(table, channel, place, &mut hits);
+    let k = nearby::note_short(table, terms, channel, place, &mut hits);
     let need = 3 * k;
     if rows.len() < need {
         let extra = need as u32;
@@ -46,6 +49,21 @@ fn list(table: &[u8], channel: usize, place: Place, rows: &mut [u32]) -> Answer
     Answer::Granted(count)
 }
 
+// What is wanted of the study: the channel that is proposed alone.
+fn on_one(proposal: Proposal) -> Wanted
+    ensures { λ r. ⌜ r ≡ onOne proposal ⌝ }
+{
+    Wanted {
+        first: proposal.channel,
+        last: proposal.channel,
+        class: proposal.class,
+        zone: proposal.zone,
+        latitude: proposal.latitude,
+        longitude: proposal.longitude,
+        aside: proposal.aside,
+    }
+}
+
 // The short stations of a proposal.
 pub fn check(table: &[u8], proposal: Proposal, rows: &mut [u32]) -> Answer
     ensures { λ r. ⌜ Answered (checkedFor (now (table .entry)) proposal) (now (rows .entry)) (now (rows .exit)) r ⌝ }
@@ -54,18 +72,12 @@ pub fn check(table: &[u8], proposal: Proposal, rows: &mut [u32]) -> Answer
     let Judged::Table(_) = j else {
         return desk::left(j);
     };
-    let channel = proposal.channel;
-    let class = proposal.class;
-    let lat = proposal.latitude;
-    let lon = proposal.longitude;
-    let v = desk::asked_fault(channel, channel, class, proposal.zone, lat, lon);
+    let wanted = on_one(proposal);
+    let v = studies::fault_of(table, wanted);
     if let Verdict::Faulty(f) = v {
         return Answer::Refused(f);
     }
-    let place = Place {
-        class: class as usize,
-        latitude: lat,
-        longitude: lon,
-    };
-    list(table, channel as usize, place, rows)
+    let terms = studies::terms_asked(wanted);
+    let place = studies::place_asked(wanted);
+    list(table, terms, proposal.channel as usize, place, rows)
 }

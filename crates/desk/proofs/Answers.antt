@@ -14,9 +14,7 @@ use Rattle.refusals.specs.declared.Refusal.{Refusal}
 use Rattle.refusals.specs.Faults.{refusal, DoesNotFit}
 use Rattle.stations.specs.declared.Judged.{Judged}
 use Rattle.stations.specs.declared.Judged.the-variants.{Table, Refused as Refused′}
-use Rattle.stations.specs.declared.Verdict.{Verdict}
-use Rattle.stations.specs.declared.Verdict.the-variants.{Sound, Faulty}
-use Rattle.desk.specs.Answers.{Outcome, grant, deny, onTable, onAsked, Answered, leave}
+use Rattle.desk.specs.Answers.{Outcome, grant, deny, onTable, Answered, leave}
 use Rattle.desk.specs.declared.Answer.{Answer}
 use Rattle.desk.specs.declared.Answer.the-variants.{Granted, Refused}
 
@@ -32,13 +30,6 @@ table-refused o entry j f e = rw e (denied f entry)
 -- the table is judged whole, and the question goes on
 pub table-passed : {o : Outcome} {entry exit : List ℕ} {r : Answer} (j : Judged) (n : ℕ) → j ≡ Table n → Answered o entry exit r → Answered (onTable j o) entry exit r
 table-passed j n e a = rw e a
-
--- what is asked is refused
-pub asked-refused : (o : Outcome) (entry : List ℕ) (v : Verdict) (f : Refusal) → v ≡ Faulty f → Answered (onAsked v o) entry entry (Refused f)
-asked-refused o entry v f e = rw e (denied f entry)
-
-pub asked-passed : {o : Outcome} {entry exit : List ℕ} {r : Answer} (v : Verdict) → v ≡ Sound → Answered o entry exit r → Answered (onAsked v o) entry exit r
-asked-passed v e a = rw e a
 
 -- 22
 pub does-not-fit : (vs entry : List ℕ) (n : ℕ) → n ≡ length vs → length entry < n → Answered (grant vs) entry entry (Refused (refusal (DoesNotFit n)))

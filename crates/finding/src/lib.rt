@@ -6,6 +6,7 @@ ghost use Rattle.stations.specs.Lists.{hasId};
 ghost use Rattle.finding.specs.Conflicts.{conflicts};
 ghost use Rattle.finding.specs.Asking.{Sought, Entrant};
 use stations::Station;
+use survey::Terms;
 
 // Whether the id stands in the table, by its place.
 pub fn is_there(table: &[u8], p: usize, id: u32) -> bool
@@ -25,18 +26,10 @@ pub fn first_conflict(table: &[u8], r: Station) -> usize
     requires { ⌜ Entrant (now table) r ⌝ }
     ensures { λ p. ⌜ p ≡ first (conflicts r) (stations (now (table .entry))) ⌝ }
 {
-    let n = stations::count_of(table);
     let channel = r.channel as usize;
     let place = survey::place_of(r);
     let limits = spacing::limits_of(place);
     let free = nearby::free_of(channel);
-    let mut i = nearby::next_short(table, 0, channel, place, &limits, &free);
-    while i < n {
-        let x = stations::station_at(table, i);
-        if x.id != r.id {
-            return i;
-        }
-        i = nearby::next_short(table, i + 1, channel, place, &limits, &free);
-    }
-    i
+    let others = Terms { aside: r.id };
+    nearby::next_short(table, 0, others, channel, place, &limits, &free)
 }

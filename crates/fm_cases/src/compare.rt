@@ -10,65 +10,19 @@ use cases::MOVE;
 use cases::Question;
 use cases::below;
 use tally::Notes;
-use tally::extra_of;
-use tally::long;
-use tally::mix;
+use tally::alike_bytes;
+use tally::alike_rows;
+use tally::least;
+use tally::needed;
 use tally::note;
-use tally::number_of;
-use tally::report;
-use tally::wide;
-ghost use Prim.Native.Nat.{_≤_, _<_};
+use tally::room_for;
+use tally::same;
 
 // The places of a buffer for an image.
 const BYTES: usize = 32_400;
 
 // The places of a buffer for rows.
 const NUMBERS: usize = 16_384;
-
-// The first place where two buffers differ, their length where there is none; what is alike goes into the digest.
-fn alike_bytes(a: &[u8], b: &[u8], notes: &mut Notes) -> usize {
-    let mut i: usize = 0;
-    while i < a.len() {
-        if b.len() <= i {
-            return i;
-        }
-        let byte = a[i];
-        if byte != b[i] {
-            return i;
-        }
-        mix(notes, wide(byte));
-        i += 1;
-    }
-    i
-}
-
-// The same for rows.
-fn alike_rows(a: &[u32], b: &[u32], notes: &mut Notes) -> usize {
-    let mut i: usize = 0;
-    while i < a.len() {
-        if b.len() <= i {
-            return i;
-        }
-        let number = a[i];
-        if number != b[i] {
-            return i;
-        }
-        mix(notes, long(number));
-        i += 1;
-    }
-    i
-}
-
-// Whether the answers are equal and the buffers alike in every place of the room; reports the question if not.
-fn same(q: Question, table: &[u8], room: usize, one: u64, two: u64, at: usize) -> bool {
-    if one == two {
-        if at == room {
-            return true;
-        }
-    }
-    report(q, table, room, one, two, at);
-    false
-}
 
 // Read or distance.
 pub(crate) fn compare_number(q: Question, table: &[u8], notes: &mut Notes) -> bool {
@@ -115,39 +69,11 @@ pub(crate) fn compare_all_rows(q: Question, table: &[u8], notes: &mut Notes) -> 
     compare_rows(q, table, &mut mine, &mut other, notes)
 }
 
-// The places that an answer to a question with one place of room calls for; 64 where it is refused for another reason.
-fn needed(answer: u64) -> usize
-    ensures { λ r. ⌜ r < 4294967296 ⌝ }
-{
-    match number_of(answer) {
-        0 | 22 => extra_of(answer) as usize,
-        _ => 64,
-    }
-}
-
-// Room for so many places: exactly, one less, a few more, a part, or plenty.
-fn room_for(state: &mut u64, need: usize) -> usize
-    requires { ⌜ need < 4294967296 ⌝ }
-{
-    match below(state, 6) {
-        0 | 1 => need,
-        2 => {
-            if need == 0 {
-                return 0;
-            }
-            need - 1
-        }
-        3 => need + below(state, 40) as usize,
-        4 => need + 300,
-        _ => below(state, 1 + (need % 20_000) as u32) as usize,
-    }
-}
-
-// The lesser of two numbers.
-pub(crate) fn least(a: usize, b: usize) -> usize
-    ensures { λ r. ⌜ (r ≤ a) × (r ≤ b) ⌝ }
-{
-    if a < b { a } else { b }
+// Check or arrange, with one place for rows.
+pub(crate) fn compare_one_place(q: Question, table: &[u8], notes: &mut Notes) -> bool {
+    let mut mine = [4_294_967_295u32; 1];
+    let mut other = [4_294_967_295u32; 1];
+    compare_rows(q, table, &mut mine, &mut other, notes)
 }
 
 // A question with an image, with some room.

@@ -67,9 +67,19 @@ pub(crate) fn first_rows(q: Question, table: &[u8], rows: &mut [u32]) -> u64 {
     let lat = signed(q.lat);
     let lon = signed(q.lon);
     if q.kind == CHECK {
-        return fms::fms_check(table, q.channel, q.class, q.zone, lat, lon, rows);
+        return fms::fms_check(table, q.channel, q.class, q.zone, lat, lon, q.id, rows);
     }
-    fms::fms_arrange(table, q.channel, q.last, q.class, q.zone, lat, lon, rows)
+    fms::fms_arrange(
+        table,
+        q.channel,
+        q.last,
+        q.class,
+        q.zone,
+        lat,
+        lon,
+        q.id,
+        rows,
+    )
 }
 
 // The second implementation's answer to check or arrange.
@@ -77,7 +87,17 @@ pub(crate) fn second_rows(q: Question, table: &[u8], rows: &mut [u32]) -> u64 {
     let lat = signed(q.lat);
     let lon = signed(q.lon);
     if q.kind == CHECK {
-        return second::check(table, q.channel, q.class, q.zone, lat, lon, rows);
+        return second::check(table, q.channel, q.class, q.zone, lat, lon, q.id, rows);
     }
-    second::arrange(table, q.channel, q.last, q.class, q.zone, lat, lon, rows)
+    second::arrange(
+        table,
+        q.channel,
+        q.last,
+        q.class,
+        q.zone,
+        lat,
+        lon,
+        q.id,
+        rows,
+    )
 }

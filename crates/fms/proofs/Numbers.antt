@@ -22,11 +22,12 @@ use Rattle.desk.specs.Asked.{placeFault, askedFault}
 use Rattle.desk.specs.Questions.{countOf, readOf, distanceOf}
 use Rattle.desk.specs.declared.Answer.{Answer}
 use Rattle.desk.specs.declared.Answer.the-variants.{Granted, Refused}
+use Rattle.studies.specs.Studies.{asideFault, studyFault, study}
+use Rattle.studies.specs.declared.Wanted.{Wanted}
 use Rattle.changes.specs.Changes.{Change, add, withdraw, move, Decision, allow, refuse, onVerdict, decide, written, changedFor}
 use Rattle.checks.specs.Check.{checkedFor}
 use Rattle.checks.specs.declared.Proposal.{Proposal}
 use Rattle.arrangements.specs.Arrange.{arrangedFor}
-use Rattle.arrangements.specs.declared.Wanted.{Wanted}
 use Rattle.fms.specs.Packed.{Says, Numbered, granted, refused}
 
 -- ---- a verdict
@@ -78,6 +79,14 @@ found-asked first last class zone latitude longitude =
     (λ _. either Found _ _ _ (λ _. fault AskedZone)
     (λ _. either Found _ _ _ (λ _. fault NotPermitted)
     (λ _. either Found _ _ _ (λ _. fault AskedSite) (λ _. sound)))))
+
+found-aside : (id : ℕ) (ss : List Station) → Found (asideFault id ss)
+unfolding asideFault
+found-aside id ss = either Found _ _ _ (λ _. fault IdAbsent) (λ _. sound)
+
+found-study : (ss : List Station) (w : Wanted) → Found (studyFault ss w)
+unfolding studyFault
+found-study ss w = found-then (found-asked (w .first) (w .last) (w .class) (w .zone) (w .latitude) (w .longitude)) (found-aside (w .aside) ss)
 
 -- ---- a judgement
 
@@ -149,13 +158,17 @@ pub numbered-change : (s : List ℕ) (c : Change) (room : ℕ) → Numbered (ans
 unfolding changedFor
 numbered-change s c room = answered room (on-table (told-judged s) (on-decision (decided (stations s) c)))
 
+comes-study : (s : List ℕ) (w : Wanted) (numbered : List Station → List ℕ) → Comes (study s w numbered)
+unfolding study
+comes-study s w numbered = on-table (told-judged s) (on-asked (found-study (stations s) w) (given-out _))
+
 pub numbered-check : (s : List ℕ) (p : Proposal) (room : ℕ) → Numbered (answer (checkedFor s p) room)
 unfolding checkedFor
-numbered-check s p room = answered room (on-table (told-judged s) (on-asked (found-asked (p .channel) (p .channel) (p .class) (p .zone) (p .latitude) (p .longitude)) (given-out _)))
+numbered-check s p room = answered room (comes-study s _ _)
 
 pub numbered-arrange : (s : List ℕ) (w : Wanted) (room : ℕ) → Numbered (answer (arrangedFor s w) room)
 unfolding arrangedFor
-numbered-arrange s w room = answered room (on-table (told-judged s) (on-asked (found-asked (w .first) (w .last) (w .class) (w .zone) (w .latitude) (w .longitude)) (given-out _)))
+numbered-arrange s w room = answered room (comes-study s _ _)
 
 numbered-count : {j : Judged} → Told j → Numbered (countOf j)
 numbered-count (table n) = granted n

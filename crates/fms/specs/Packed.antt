@@ -8,7 +8,7 @@ use lib.ListN.{length}
 use Rattle.refusals.specs.Faults.{Fault, refusal}
 use Rattle.changes.specs.declared.Newcomer.{Newcomer}
 use Rattle.checks.specs.declared.Proposal.{Proposal}
-use Rattle.arrangements.specs.declared.Wanted.{Wanted}
+use Rattle.studies.specs.declared.Wanted.{Wanted}
 use Rattle.desk.specs.Answers.{Outcome, answer, buffer}
 use Rattle.desk.specs.declared.Answer.{Answer}
 use Rattle.desk.specs.declared.Answer.the-variants.{Granted, Refused}
@@ -41,10 +41,10 @@ abbrev pub newcomer : ℕ → ℕ → ℕ → ℕ → ℤ → ℤ → Newcomer
 newcomer id channel class zone latitude longitude =
     record { id = id; channel = channel; class = class; zone = zone; latitude = latitude; longitude = longitude }
 
-abbrev pub proposal : ℕ → ℕ → ℕ → ℤ → ℤ → Proposal
-proposal channel class zone latitude longitude =
-    record { channel = channel; class = class; zone = zone; latitude = latitude; longitude = longitude }
+abbrev pub proposal : ℕ → ℕ → ℕ → ℤ → ℤ → ℕ → Proposal
+proposal channel class zone latitude longitude aside =
+    record { channel = channel; class = class; zone = zone; latitude = latitude; longitude = longitude; aside = aside }
 
-abbrev pub wanted : ℕ → ℕ → ℕ → ℕ → ℤ → ℤ → Wanted
-wanted first last class zone latitude longitude =
-    record { first = first; last = last; class = class; zone = zone; latitude = latitude; longitude = longitude }
+abbrev pub wanted : ℕ → ℕ → ℕ → ℕ → ℤ → ℤ → ℕ → Wanted
+wanted first last class zone latitude longitude aside =
+    record { first = first; last = last; class = class; zone = zone; latitude = latitude; longitude = longitude; aside = aside }

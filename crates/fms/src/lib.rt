@@ -6,11 +6,11 @@ ghost use Rattle.changes.specs.Changes.{add as adding, withdraw as withdrawing,
 ghost use Rattle.fms.specs.Packed.{Says, Packed, newcomer as asked, proposal, wanted};
 ghost use Rattle.checks.specs.Check.{checkedFor};
 ghost use Rattle.arrangements.specs.Arrange.{arrangedFor};
-use arrangements::Wanted;
 use changes::Newcomer;
 use checks::Proposal;
 use desk::Answer;
 use desk::Site;
+use studies::Wanted;
 
 fn pack(a: Answer) -> u64
     ensures { λ r. ⌜ Says a r ⌝ }
@@ -100,9 +100,10 @@ pub extern "C" fn fms_check(
     zone: u32,
     lat: i32,
     lon: i32,
+    aside: u32,
     rows: &mut [u32],
 ) -> u64
-    ensures { λ r. ⌜ Packed (checkedFor (now (table .entry)) (proposal channel class zone lat lon)) (now (rows .entry)) (now (rows .exit)) r ⌝ }
+    ensures { λ r. ⌜ Packed (checkedFor (now (table .entry)) (proposal channel class zone lat lon aside)) (now (rows .entry)) (now (rows .exit)) r ⌝ }
 {
     let asked = Proposal {
         channel,
@@ -110,6 +111,7 @@ pub extern "C" fn fms_check(
         zone,
         latitude: lat,
         longitude: lon,
+        aside,
     };
     let a = checks::check(table, asked, rows);
     pack(a)
@@ -124,9 +126,10 @@ pub extern "C" fn fms_arrange(
     zone: u32,
     lat: i32,
     lon: i32,
+    aside: u32,
     rows: &mut [u32],
 ) -> u64
-    ensures { λ r. ⌜ Packed (arrangedFor (now (table .entry)) (wanted first last class zone lat lon)) (now (rows .entry)) (now (rows .exit)) r ⌝ }
+    ensures { λ r. ⌜ Packed (arrangedFor (now (table .entry)) (wanted first last class zone lat lon aside)) (now (rows .entry)) (now (rows .exit)) r ⌝ }
 {
     let asked = Wanted {
         first,
@@ -135,6 +138,7 @@ pub extern "C" fn fms_arrange(
         zone,
         latitude: lat,
         longitude: lon,
+        aside,
     };
     let a = arrangements::arrange(table, asked, rows);
     pack(a)

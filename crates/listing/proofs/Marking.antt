@@ -9,7 +9,7 @@ use lib.ListN.{length}
 use borrow.Author.Tests.{eq-eqb, ne-eqb}
 use Rattle.ground.specs.Lists.{span, each}
 use Rattle.part73.specs.Channels.{lowest, channelCount, newChannels}
-use Rattle.survey.specs.Marks.{many}
+use Rattle.marking.specs.Marks.{many}
 use Rattle.planning.specs.Flags.{flagOf}
 use Rattle.listing.specs.Listing.{moveAt, moveRows, markRows}
 use Rattle.ground.proofs.Spans.{length-span, each-length, cond-length}

@@ -9,8 +9,8 @@ use lib.ListN.{length}
 use Rattle.ground.specs.Lists.{span, each}
 use Rattle.part73.specs.Channels.{highest, channelCount, newChannels}
 use Rattle.stations.specs.Image.{stationAt, count, Accepted}
-use Rattle.survey.specs.Marks.{many, markOf, Asked}
-use Rattle.survey.specs.declared.Channels.{Channels}
+use Rattle.marking.specs.Marks.{many, markOf, Asked}
+use Rattle.marking.specs.declared.Channels.{Channels}
 use Rattle.planning.specs.Flags.{Mark, flagOf, rowOf, Room}
 use Rattle.planning.specs.Planning.{Surveyed}
 

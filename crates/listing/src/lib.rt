@@ -5,11 +5,11 @@ ghost use Rattle.ground.specs.Writing.{Wrote};
 ghost use Rattle.desk.specs.Answers.{grant, Answered};
 ghost use Rattle.listing.specs.Listing.{idAt, moveRows, markRows, allRows, OneStation, OneChannel, EachChannel};
 use desk::Answer;
+use marking::Channels;
+use marking::MANY;
 use part73::CHANNEL_COUNT;
 use part73::HIGHEST;
 use part73::LOWEST;
-use survey::Channels;
-use survey::MANY;
 
 // The rows of the moves of one station.
 fn list_moves(row: &[bool], id: u32, c: usize, rows: &mut [u32], at: usize) -> usize

@@ -16,9 +16,7 @@ use Rattle.spacing.specs.declared.Place.{Place}
 use Rattle.stations.specs.Image.{stationAt, count, Accepted}
 use Rattle.stations.specs.Version.{limit}
 use Rattle.stations.specs.declared.Station.{Station}
-use Rattle.survey.specs.Ways.{near}
-use Rattle.survey.specs.Marks.{blocks}
-use Rattle.survey.specs.Walking.{Walk}
+use Rattle.survey.specs.Walking.{blocks, Walk}
 
 -- of the records those that are looked at and short, in table order
 unfoldable pub shortPositions : (ℕ → ℕ → ℕ → ℕ) → (Station → Bool) → List ℕ → Assignment → List ℕ
@@ -56,10 +54,10 @@ pub record Search (s : List ℕ) (from channel : ℕ) (p : Place) (limits : List
   pub within : from ≤ count s
   pub free-of : Free channel free
 
--- r is the first position from one on whose record p is short to; the count where there is none
-pub record NextShort (s : List ℕ) (p : Assignment) (from r : ℕ) : Type 0 where
-  pub passed : Passing (λ j. near tableA p (stationAt s j) ≡ false) (count s) from r
-  pub short : r < count s → near tableA p (stationAt s r) ≡ true
+-- r is the first position from one on whose record is looked at and p is short to; the count where there is none
+pub record NextShort (look : Station → Bool) (s : List ℕ) (p : Assignment) (from r : ℕ) : Type 0 where
+  pub passed : Passing (λ j. blocks tableA look s p j ≡ false) (count s) from r
+  pub short : r < count s → blocks tableA look s p r ≡ true
 
 -- what noting them asks
 pub record Notes (s : List ℕ) (channel : ℕ) (p : Place) (hits : List ℕ) : Type 0 where

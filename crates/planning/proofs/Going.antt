@@ -1,6 +1,6 @@
 -- Where a lone blocker may go: from the code's marks and rows to the scene. Assumes nothing.
 use mathlib.Core.Path.{_≡_, _∙_}
-use mathlib.Core.Bool.{Bool, true, false, not}
+use mathlib.Core.Bool.{Bool, true, false, not, and-false}
 use mathlib.Core.List.{List}
 use mathlib.Core.Logic.{⊎-elim}
 use Prim.Native.Nat.{ℕ, suc, _+_, _-_, _≤_, _<_}
@@ -14,8 +14,10 @@ use Rattle.part73.specs.TableA.{tableA}
 use Rattle.spacing.specs.declared.Place.{Place}
 use Rattle.stations.specs.Image.{count, Accepted}
 use Rattle.stations.specs.Lists.{movable}
-use Rattle.survey.specs.Ways.{everyRecord}
-use Rattle.survey.specs.Marks.{many, seen, markOf}
+use Rattle.survey.specs.Ways.{looked}
+use Rattle.survey.specs.Walking.{blocks}
+use Rattle.marking.specs.Marks.{many, seen, markOf}
+use Rattle.survey.specs.declared.Terms.{Terms}
 use Rattle.survey.proofs.Records.{few}
 use Rattle.survey.proofs.Shorts.{hit-at}
 use Rattle.planning.specs.Scene.{Scene, scene, sceneOf, newBut, movedBut, allowed}
@@ -23,7 +25,7 @@ use Rattle.planning.specs.Flags.{Mark, Lone, stationOf, mayMove, Kept, M
 use Rattle.planning.specs.Planning.{Single}
 use Rattle.planning.specs.declared.Blocker.{Blocker}
 use Rattle.planning.proofs.Single.{First, one}
-use Rattle.planning.proofs.Tallies.{Tally, nobody, lone, several, tally, mark-of, but-mark}
+use Rattle.planning.proofs.Tallies.{Tally, nobody, lone, several, tally, mark-of, lone-hit, but-mark}
 use Rattle.planning.proofs.Rowing.{Turned}
 
 -- ---- where a lone movable blocker may go, by the marks from its own site
@@ -62,24 +64,33 @@ module _ (s : List ℕ) (v : ℕ) where
 
 -- ---- the row of a new channel, by its mark
 
-pub marks-one : (s : List ℕ) (p : Place) (c : ℕ) {v : ℕ} → v ≡ seen (sceneOf s p .new c) (count s) → Mark (count s) v
-marks-one s p c e = rw e (mark-of (sceneOf s p .new c) (count s) _ (tally _ (count s)))
+module _ (s : List ℕ) (t : Terms) (p : Place) (c : ℕ) {v : ℕ} (e : v ≡ seen (sceneOf s t p .new c) (count s)) where
+  tallied : Tally (sceneOf s t p .new c) (count s) v
+  tallied = rw e (tally _ (count s))
 
-module _ (s : List ℕ) (p : Place) (a : Accepted s) (c : ℕ) {v : ℕ} (e : v ≡ seen (sceneOf s p .new c) (count s)) where
-  pub right-kept : {kept : List ℕ} {b : Blocker} {row : List Bool} → lowest ≤ c → mayMove s v ≡ true → Kept tableA everyRecord s v kept → Meets tableA s p v b → Rowed (goesFrom b c kept) row → Right (sceneOf s p) c v row
+  pub marks-one : Mark (count s) v
+  marks-one = mark-of _ (count s) v tallied
+
+  -- a station that alone is in the way is looked at
+  lone-looked : Lone v → looked t (stationOf s v) ≡ true
+  unfolding scene blocks
+  lone-looked l = and-was (looked t (stationOf s v)) _ (lone-hit _ (count s) v l tallied) .0
+
+  pub right-kept : {kept : List ℕ} {b : Blocker} {row : List Bool} → Accepted s → lowest ≤ c → mayMove s v ≡ true → Kept tableA (looked t) s v kept → Meets tableA s p v b → Rowed (goesFrom b c kept) row → Right (sceneOf s t p) c v row
   unfolding scene
-  right-kept {kept} low y k w r l =
-      let m = moves-yes s v (marks-one s p c e) y in
+  right-kept {kept} a low y k w r l =
+      let m = moves-yes s v marks-one y in
       let some = m .0 .some in
       record {
         at =
             λ x lo hi.
-            r .at x lo hi ∙ rw (w .mark, w .own some, hit-at (w .reach some) c x low) (by-kept (sceneOf s p) c v kept (omega (arith, few s a)) (rw e (tally (sceneOf s p .new c) (count s))) l (m .1) (k .of some .at) x lo hi);
+            r .at x lo hi
+            ∙ rw (w .mark, w .own some, hit-at (w .reach some) c x low) (by-kept (sceneOf s t p) c v kept (omega (arith, few s a)) tallied l (rw (lone-looked l) (m .1)) (k .of some .at) x lo hi);
       }
 
-  pub right-down : {row : List Bool} → mayMove s v ≡ false → Rowed (λ m. false) row → Right (sceneOf s p) c v row
+  pub right-down : {row : List Bool} → mayMove s v ≡ false → Rowed (λ m. false) row → Right (sceneOf s t p) c v row
   unfolding scene allowed
-  right-down n r l = record { at = λ x lo hi. r .at x lo hi ∙ rw (moves-no s v n l) }
+  right-down n r l = record { at = λ x lo hi. r .at x lo hi ∙ rw (moves-no s v n l, and-false (looked t (stationOf s v))) }
 
 -- ---- one new channel after the other
 

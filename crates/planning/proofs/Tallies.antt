@@ -2,14 +2,14 @@
 use mathlib.Core.Path.{_≡_, refl, sym, ap, _∙_, subst}
 use mathlib.Core.Bool.{Bool, true, false, cond, _||_}
 use mathlib.Core.Logic.{inl, inr}
-use Prim.Native.Nat.{ℕ, zero, suc, _+_, _≤_, _<_}
+use Prim.Native.Nat.{ℕ, zero, suc, _+_, _-_, _≤_, _<_}
 use native.Mathlib.Numerals.{add-one}
 use native.Mathlib.Omega.{arith}
 use native.Mathlib.Decide.{ℕ-discrete}
 use lib.Dec.{eqb}
 use borrow.Author.Tests.{eq-eqb, ne-eqb}
-use Rattle.survey.specs.Marks.{many, join, seen}
-use Rattle.planning.specs.Flags.{Mark}
+use Rattle.marking.specs.Marks.{many, join, seen}
+use Rattle.planning.specs.Flags.{Mark, Lone}
 use Rattle.planning.proofs.Single.{First, FreeBut, free-but, one, two, other}
 
 -- the mark of the first n positions, by who of them stands in the way
@@ -59,6 +59,12 @@ module _ (way : ℕ → Bool) where
   mark-of n v (nobody f) = inl (omega arith)
   mark-of n v (lone a l f g) = inl l
   mark-of n v (several a b l f g h) = inr refl
+
+  -- the one that a mark is of stands in the way
+  pub lone-hit : (n v : ℕ) → Lone v → Tally way n v → way (v - 1) ≡ true
+  lone-hit n v o (nobody f) = absurd (omega arith)
+  lone-hit n v o (lone a l f g) = let e : suc a - 1 ≡ a = omega arith in rw e (f .hit l)
+  lone-hit n v o (several a b l f g h) = absurd (omega arith)
 
   -- nobody but perhaps the one at i, by the mark
   pub but-mark : (n i v : ℕ) → n < many → i < n → Tally way n v → FreeBut n way i ≡ (eqb v 0 || eqb v (suc i))

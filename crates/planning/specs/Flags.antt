@@ -14,8 +14,9 @@ use Rattle.stations.specs.Image.{stationAt, count}
 use Rattle.stations.specs.Lists.{movable}
 use Rattle.stations.specs.declared.Station.{Station}
 use Rattle.survey.specs.Ways.{onChannel, placeOf}
-use Rattle.survey.specs.Marks.{blocks, many, seen, markOf, Marked}
-use Rattle.survey.specs.declared.Channels.{Channels}
+use Rattle.survey.specs.Walking.{blocks}
+use Rattle.marking.specs.Marks.{many, seen, markOf, Marked}
+use Rattle.marking.specs.declared.Channels.{Channels}
 use Rattle.planning.specs.Scene.{Scene, allowed}
 use Rattle.planning.specs.declared.Blocker.{Blocker}
 

@@ -10,8 +10,9 @@ use Rattle.spacing.specs.declared.Place.{Place}
 use Rattle.stations.specs.Image.{stationAt, count}
 use Rattle.stations.specs.Lists.{movable as isMovable}
 use Rattle.stations.specs.declared.Station.{Station}
-use Rattle.survey.specs.Ways.{onChannel, everyRecord}
-use Rattle.survey.specs.Marks.{blocks}
+use Rattle.survey.specs.Ways.{onChannel, looked}
+use Rattle.survey.specs.Walking.{blocks}
+use Rattle.survey.specs.declared.Terms.{Terms}
 
 -- the stations by position, and who is short to whom
 pub record Scene : Type 0 where
@@ -39,9 +40,9 @@ scene km look s new =
       meets = λ i m c. shortBy km (new c) (onChannel m (stationAt s i));
     }
 
--- that of a question: by Table A, every record
-abbrev pub sceneOf : List ℕ → Place → Scene
-sceneOf s p = scene tableA everyRecord s (sited p)
+-- that of a question: by Table A, on its terms
+abbrev pub sceneOf : List ℕ → Terms → Place → Scene
+sceneOf s t p = scene tableA (looked t) s (sited p)
 
 -- the new station on c is short to nobody other than the one at i
 unfoldable pub newBut : Scene → ℕ → ℕ → Bool

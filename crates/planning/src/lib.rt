@@ -8,18 +8,19 @@ ghost use Rattle.part73.specs.Channels.{channelCount};
 ghost use Rattle.part73.specs.Columns.{gap};
 ghost use Rattle.part73.specs.TableA.{tableA};
 ghost use Rattle.spacing.specs.Reaching.{hits};
-ghost use Rattle.survey.specs.Ways.{everyRecord};
+ghost use Rattle.survey.specs.Ways.{looked};
 ghost use Rattle.planning.specs.Scene.{sceneOf};
 ghost use Rattle.planning.specs.Flags.{mayMove, Kept, Meets, goes, goesFrom, Rowed, Planned};
 ghost use Rattle.planning.specs.Planning.{Surveyed, Resurvey, Meeting, Planning};
+use marking::Channels;
+use marking::MANY;
 use part73::CHANNEL_COUNT;
 use part73::HIGHEST;
 use part73::LOWEST;
 use spacing::Limits;
 use spacing::Place;
 use spacing::Reach;
-use survey::Channels;
-use survey::MANY;
+use survey::Terms;
 
 // The station that a mark is of: its channel, and how far it and the new station reach.
 pub struct Blocker {
@@ -86,9 +87,9 @@ fn may_move(table: &[u8], mark: u16) -> bool
 }
 
 // The marks from the site of the station that `mark` marks, unless they are those that are kept.
-fn survey_from(table: &[u8], mark: u16, whose: u16, kept: &mut [u16; CHANNEL_COUNT])
-    requires { ⌜ Resurvey (now table) mark whose (now kept) ⌝ }
-    ensures { λ _. ⌜ Kept tableA everyRecord (now (table .entry)) mark (now (kept .exit)) ⌝ }
+fn survey_from(table: &[u8], terms: Terms, mark: u16, whose: u16, kept: &mut [u16; CHANNEL_COUNT])
+    requires { ⌜ Resurvey (now table) terms mark whose (now kept) ⌝ }
+    ensures { λ _. ⌜ Kept tableA (looked terms) (now (table .entry)) mark (now (kept .exit)) ⌝ }
 {
     if mark == whose {
         return;
@@ -100,7 +101,7 @@ fn survey_from(table: &[u8], mark: u16, whose: u16, kept: &mut [u16; CHANNEL_COU
         first: LOWEST,
         last: HIGHEST,
     };
-    survey::survey(table, place, &limits, channels, kept)
+    survey::survey(table, terms, place, &limits, channels, kept)
 }
 
 // The station that `mark` marks, unless it is the one that is kept.
@@ -122,14 +123,15 @@ fn blocker_at(table: &[u8], place: Place, limits: &Limits, mark: u16, kept: Bloc
 // one look at how far it and the new one reach, serve all the new channels that it alone blocks, one after the other.
 pub fn plan(
     table: &[u8],
+    terms: Terms,
     place: Place,
     limits: &Limits,
     channels: Channels,
     marks: &[u16; CHANNEL_COUNT],
     moves: &mut [bool],
 )
-    requires { ⌜ Planning (now table) place (now limits) channels (now marks) (now moves) ⌝ }
-    ensures { λ _. ⌜ Planned (sceneOf (now (table .entry)) place) (channels .first) (suc (channels .last)) (now (moves .exit)) ⌝ }
+    requires { ⌜ Planning (now table) terms place (now limits) channels (now marks) (now moves) ⌝ }
+    ensures { λ _. ⌜ Planned (sceneOf (now (table .entry)) terms place) (channels .first) (suc (channels .last)) (now (moves .exit)) ⌝ }
 {
     let first = channels.first;
     let last = channels.last;
@@ -147,7 +149,7 @@ pub fn plan(
         let k = c - LOWEST;
         let mark = marks[k];
         if may_move(table, mark) {
-            survey_from(table, mark, blocker.mark, &mut kept);
+            survey_from(table, terms, mark, blocker.mark, &mut kept);
             blocker = blocker_at(table, place, limits, mark, blocker);
             let a = CHANNEL_COUNT * (c - first);
             let b = a + CHANNEL_COUNT;

@@ -12,10 +12,12 @@ use Rattle.ground.proofs.Spans.{span-cons, span-done, each-each}
 use Rattle.part73.specs.Channels.{lowest, highest, newChannels}
 use Rattle.part73.specs.TableA.{tableA}
 use Rattle.stations.specs.Image.{stations}
-use Rattle.survey.specs.Marks.{Asked}
+use Rattle.marking.specs.Marks.{Asked}
 use Rattle.survey.specs.Ways.{studied}
+use Rattle.survey.specs.declared.Terms.{Terms}
 use Rattle.desk.specs.Answers.{Outcome, grant, deny}
-use Rattle.arrangements.specs.Arrange.{asked, arranged, arrangements}
+use Rattle.studies.specs.Studies.{asked}
+use Rattle.arrangements.specs.Arrange.{arranged, arrangements}
 use Rattle.lines.specs.Lines.{rowLine, refusedLine}
 use Rattle.asking.specs.Asking.{wantedOf, arrangeInput}
 use Rattle.asking.proofs.Fitting.{one-channel}
@@ -42,40 +44,40 @@ whole-range = record { low = omega arith; some = omega arith; high = omega arith
 one-of : {c : ℕ} → lowest ≤ c → c ≤ highest → Asked (record { first = c; last = c })
 one-of lo hi = record { low = lo; some = omega arith; high = hi }
 
-module _ (input : List ℕ) where
+module _ (terms : Terms) (input : List ℕ) where
   -- the outcome for the whole range
   abbrev all : Outcome
-  all = arrangeInput lowest highest input
+  all = arrangeInput lowest highest terms input
 
   -- the rows of a new channel
   rowsOn : ℕ → List Row
-  rowsOn = arranged tableA (asked (wantedOf lowest highest input)) (studied (stations (drop 10 input)))
+  rowsOn = arranged tableA (asked (wantedOf lowest highest terms input)) (studied terms (stations (drop 10 input)))
 
-  rows-one : (c : ℕ) → linesText (rowsOf input c c) ≡ each rowText (rowsOn c)
+  rows-one : (c : ℕ) → linesText (rowsOf terms input c c) ≡ each rowText (rowsOn c)
   unfolding rowsOf rowsOn
-  rows-one c = lines-flat _ ∙ ap (each rowText) (one-channel tableA (asked (wantedOf lowest highest input)) (studied (stations (drop 10 input))) c)
+  rows-one c = lines-flat _ ∙ ap (each rowText) (one-channel tableA (asked (wantedOf lowest highest terms input)) (studied terms (stations (drop 10 input))) c)
 
-  rows-all : linesText (rowsOf input lowest highest) ≡ each (λ c. each rowText (rowsOn c)) newChannels
+  rows-all : linesText (rowsOf terms input lowest highest) ≡ each (λ c. each rowText (rowsOn c)) newChannels
   unfolding rowsOf rowsOn arrangements
   rows-all = lines-flat _ ∙ each-each _ rowText newChannels
 
   module _ (c : ℕ) (lo : lowest ≤ c) (hi : c ≤ highest) where
-    channel-alike : arrangeInput c c input ≡ regrant (rowsOf input c c) all
-    channel-alike = alike whole-range (one-of lo hi) input
+    channel-alike : arrangeInput c c terms input ≡ regrant (rowsOf terms input c c) all
+    channel-alike = alike whole-range (one-of lo hi) terms input
 
-    denied-alike : isDenied (arrangeInput c c input) ≡ isDenied all
+    denied-alike : isDenied (arrangeInput c c terms input) ≡ isDenied all
     denied-alike = ap isDenied channel-alike ∙ go all
       where
-        go : (o : Outcome) → isDenied (regrant (rowsOf input c c) o) ≡ isDenied o
+        go : (o : Outcome) → isDenied (regrant (rowsOf terms input c c) o) ≡ isDenied o
         go (grant vs) = refl
         go (deny f) = refl
 
     -- the text of a new channel, by the outcome for the whole range
-    channel-text : channelText input c ≡ printed (λ vs. each rowText (rowsOn c)) all
+    channel-text : channelText terms input c ≡ printed (λ vs. each rowText (rowsOn c)) all
     unfolding channelText
     channel-text = ap (printed linesText) channel-alike ∙ go all
       where
-        go : (o : Outcome) → printed linesText (regrant (rowsOf input c c) o) ≡ printed (λ vs. each rowText (rowsOn c)) o
+        go : (o : Outcome) → printed linesText (regrant (rowsOf terms input c c) o) ≡ printed (λ vs. each rowText (rowsOn c)) o
         go (grant vs) = rows-one c
         go (deny f) = refl
 
@@ -85,17 +87,17 @@ module _ (input : List ℕ) where
   pub leftFrom : ℕ → List ℕ
   leftFrom c = printed (λ vs. each (λ m. each rowText (rowsOn m)) (span c (highest + 1 - c))) all
 
-  pub left-first : printedArrange input ≡ leftFrom lowest
+  pub left-first : printedArrange terms input ≡ leftFrom lowest
   unfolding printedArrange leftFrom
-  left-first = ap (printed linesText) (alike whole-range whole-range input) ∙ go all
+  left-first = ap (printed linesText) (alike whole-range whole-range terms input) ∙ go all
     where
-      go : (o : Outcome) → printed linesText (regrant (rowsOf input lowest highest) o) ≡ printed (λ vs. each (λ m. each rowText (rowsOn m)) newChannels) o
+      go : (o : Outcome) → printed linesText (regrant (rowsOf terms input lowest highest) o) ≡ printed (λ vs. each (λ m. each rowText (rowsOn m)) newChannels) o
       go (grant vs) = rows-all
       go (deny f) = refl
 
   module _ (c : ℕ) (lo : lowest ≤ c) (hi : c ≤ highest) where
     -- a new channel that is refused: its line is what is left
-    pub left-denied : isDenied (arrangeInput c c input) ≡ true → leftFrom c ≡ channelText input c ++ []
+    pub left-denied : isDenied (arrangeInput c c terms input) ≡ true → leftFrom c ≡ channelText terms input c ++ []
     unfolding leftFrom
     left-denied d = go all (sym (denied-alike c lo hi) ∙ d) ∙ sym (ap (λ (l : List ℕ). l ++ []) (channel-text c lo hi))
       where
@@ -104,10 +106,10 @@ module _ (input : List ℕ) where
         go (grant vs) b = absurd (true≢false (sym b))
 
     -- one that is not: none is, and its lines are told
-    pub all-granted : isDenied (arrangeInput c c input) ≡ false → isDenied all ≡ false
+    pub all-granted : isDenied (arrangeInput c c terms input) ≡ false → isDenied all ≡ false
     all-granted d = sym (denied-alike c lo hi) ∙ d
 
-    pub left-next : isDenied (arrangeInput c c input) ≡ false → leftFrom c ≡ channelText input c ++ leftFrom (c + 1)
+    pub left-next : isDenied (arrangeInput c c terms input) ≡ false → leftFrom c ≡ channelText terms input c ++ leftFrom (c + 1)
     unfolding leftFrom each
     left-next d = go all (all-granted d) ∙ sym (ap (λ (l : List ℕ). l ++ leftFrom (c + 1)) (channel-text c lo hi))
       where

@@ -3,12 +3,13 @@ use mathlib.Core.Bool.{Bool, true, false}
 use mathlib.Core.List.{List}
 use Prim.Native.Nat.{ℕ}
 use Rattle.desk.specs.Answers.{Outcome, grant, deny}
+use Rattle.survey.specs.declared.Terms.{Terms}
 use Rattle.asking.specs.Asking.{arrangeInput}
 use Rattle.telling.specs.Texts.{linesText}
 use Rattle.programs.specs.Printed.{printed}
 
-unfoldable pub channelText : List ℕ → ℕ → List ℕ
-channelText input c = printed linesText (arrangeInput c c input)
+unfoldable pub channelText : Terms → List ℕ → ℕ → List ℕ
+channelText t input c = printed linesText (arrangeInput c c t input)
 
 abbrev pub isDenied : Outcome → Bool
 isDenied (grant vs) = false

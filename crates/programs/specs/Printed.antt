@@ -1,10 +1,15 @@
--- 01, The programs: all that a program prints, as one list of bytes, from its whole input. Assumes nothing.
+-- 01, The programs; 02, R-1: all that a program prints, as one list of bytes, from its whole input. Assumes nothing.
 use mathlib.Core.List.{List}
 use Prim.Native.Nat.{ℕ}
+use lib.ListN.{drop}
+use Rattle.survey.specs.declared.Terms.{Terms}
 use Rattle.desk.specs.Answers.{Outcome, grant, deny}
 use Rattle.lines.specs.Lines.{refusedLine}
 use Rattle.part73.specs.Channels.{lowest, highest}
-use Rattle.asking.specs.Asking.{checkInput, arrangeInput, changeInput, distanceInput}
+use Rattle.asking.specs.Asking.{plain, checkInput, arrangeInput, changeInput, distanceInput}
+use Rattle.subjects.specs.Subjects.{afterTerms, subjectOf}
+use Rattle.subjects.specs.declared.Subject.{Subject}
+use Rattle.subjects.specs.declared.Subject.the-variants.{Check as Check′, Arrange as Arrange′, Distance}
 use Rattle.programs.specs.declared.Program.{Program}
 use Rattle.programs.specs.declared.Program.the-variants.{Check, Arrange, Change, Study}
 use Rattle.telling.specs.Texts.{linesText, shortText, imageText, distanceText}
@@ -15,23 +20,32 @@ printed text (grant vs) = text vs
 printed text (deny f) = refusedLine f
 
 -- `short K`, and K lines
-unfoldable pub printedCheck : List ℕ → List ℕ
-printedCheck input = printed shortText (checkInput input)
+unfoldable pub printedCheck : Terms → List ℕ → List ℕ
+printedCheck t input = printed shortText (checkInput t input)
 
 -- the lines of all arrangements on the new channels from 221 to 300
-unfoldable pub printedArrange : List ℕ → List ℕ
-printedArrange input = printed linesText (arrangeInput lowest highest input)
+unfoldable pub printedArrange : Terms → List ℕ → List ℕ
+printedArrange t input = printed linesText (arrangeInput lowest highest t input)
 
 -- the new image
 unfoldable pub printedChange : List ℕ → List ℕ
 printedChange input = printed imageText (changeInput input)
 
 -- D, on a line
+unfoldable pub printedDistance : List ℕ → List ℕ
+printedDistance input = distanceText (distanceInput input)
+
+-- a study prints, of what follows letter and terms, what the program of 01 prints
+abbrev pub printedAs : Subject → List ℕ → List ℕ
+printedAs (Check′ t) input = printedCheck t (drop afterTerms input)
+printedAs (Arrange′ t) input = printedArrange t (drop afterTerms input)
+printedAs Distance input = printedDistance input
+
 unfoldable pub printedStudy : List ℕ → List ℕ
-printedStudy input = distanceText (distanceInput input)
+printedStudy input = printedAs (subjectOf input) input
 
 unfoldable pub printedBy : Program → List ℕ → List ℕ
-printedBy Check = printedCheck
-printedBy Arrange = printedArrange
+printedBy Check = printedCheck plain
+printedBy Arrange = printedArrange plain
 printedBy Change = printedChange
 printedBy Study = printedStudy

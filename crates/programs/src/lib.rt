@@ -7,7 +7,7 @@ ghost use Rattle.part73.specs.Channels.{channelCount};
 ghost use Rattle.asking.specs.Asking.{arrangeInput};
 ghost use Rattle.streams.specs.Tells.{Tells};
 ghost use Rattle.programs.specs.OneChannel.{channelText, isDenied};
-ghost use Rattle.programs.specs.Printed.{printedCheck, printedArrange, printedChange, printedStudy, printedBy};
+ghost use Rattle.programs.specs.Printed.{printedCheck, printedArrange, printedChange, printedDistance, printedStudy, printedBy};
 ghost use Rattle.programs.specs.Ran.{Ran};
 use asking::asked_arrange;
 use asking::asked_change;
@@ -19,6 +19,10 @@ use part73::HIGHEST_ASKED;
 use part73::LOWEST_ASKED;
 use streams::hand;
 use streams::room;
+use subjects::AFTER_TERMS;
+use subjects::Subject;
+use subjects::subject_of;
+use survey::Terms;
 use telling::Channel;
 use telling::put_answer;
 use telling::tell_change;
@@ -43,31 +47,34 @@ const ROWS: usize = 3 * stations::LIMIT;
 
 const IMAGE: usize = stations::HEADER + stations::RECORD * stations::LIMIT;
 
+// The terms of the programs of 01: nobody is left aside.
+const PLAIN: Terms = Terms { aside: 0 };
+
 // Check, on its input.
-fn check(input: &[u8], mark: &mut usize) -> bool
-    ensures { λ r. ⌜ Tells (printedCheck (now (input .entry))) (now (mark .entry)) (now (mark .exit)) r ⌝ }
+fn check(input: &[u8], terms: Terms, mark: &mut usize) -> bool
+    ensures { λ r. ⌜ Tells (printedCheck terms (now (input .entry))) (now (mark .entry)) (now (mark .exit)) r ⌝ }
 {
     let mut rows = [0u32; ROWS];
-    let answer = asked_check(input, &mut rows);
+    let answer = asked_check(input, terms, &mut rows);
     let mut text = streams::space();
     tell_check(&mut text, &rows, answer, mark)
 }
 
 // The lines of one new channel, or the refusal's line.
-fn put_channel(text: &mut [u8], at: usize, input: &[u8], channel: u32) -> Channel
+fn put_channel(text: &mut [u8], at: usize, input: &[u8], terms: Terms, channel: u32) -> Channel
     requires { ⌜ at + 33 * (channelCount - 1) ≤ length (now text) ⌝ }
-    ensures { λ r. ⌜ Wrote (channelText (now (input .entry)) channel) (now (text .entry)) at (now (text .exit)) (r .at) ⌝ }
-    ensures { λ r. ⌜ (r .at ≤ at + 33 * (channelCount - 1)) × (r .refused ≡ isDenied (arrangeInput channel channel (now (input .entry)))) ⌝ }
+    ensures { λ r. ⌜ Wrote (channelText terms (now (input .entry)) channel) (now (text .entry)) at (now (text .exit)) (r .at) ⌝ }
+    ensures { λ r. ⌜ (r .at ≤ at + 33 * (channelCount - 1)) × (r .refused ≡ isDenied (arrangeInput channel channel terms (now (input .entry)))) ⌝ }
 {
     let mut rows = [0u32; ROWS_OF_ONE];
-    let answer = asked_arrange(input, channel, &mut rows);
+    let answer = asked_arrange(input, terms, channel, &mut rows);
     put_answer(text, at, &rows, answer)
 }
 
 // The new channels from 221 to 300, one at a time. What is refused for one is refused for all, so it stands alone.
-fn tell_channels(text: &mut [u8], input: &[u8], mark: &mut usize) -> bool
+fn tell_channels(text: &mut [u8], input: &[u8], terms: Terms, mark: &mut usize) -> bool
     requires { ⌜ 65536 ≤ length (now text) ⌝ }
-    ensures { λ r. ⌜ Tells (printedArrange (now (input .entry))) (now (mark .entry)) (now (mark .exit)) r ⌝ }
+    ensures { λ r. ⌜ Tells (printedArrange terms (now (input .entry))) (now (mark .entry)) (now (mark .exit)) r ⌝ }
 {
     let mut at: usize = 0;
     let mut channel = LOWEST_ASKED;
@@ -76,7 +83,7 @@ fn tell_channels(text: &mut [u8], input: &[u8], mark: &mut usize) -> bool
         if !p.whole {
             return false;
         }
-        let c = put_channel(text, p.at, input, channel);
+        let c = put_channel(text, p.at, input, terms, channel);
         at = c.at;
         if c.refused {
             return hand(text, at, mark);
@@ -87,11 +94,11 @@ fn tell_channels(text: &mut [u8], input: &[u8], mark: &mut usize) -> bool
 }
 
 // Arrange, on its input, for the new channels from 221 to 300.
-fn arrange(input: &[u8], mark: &mut usize) -> bool
-    ensures { λ r. ⌜ Tells (printedArrange (now (input .entry))) (now (mark .entry)) (now (mark .exit)) r ⌝ }
+fn arrange(input: &[u8], terms: Terms, mark: &mut usize) -> bool
+    ensures { λ r. ⌜ Tells (printedArrange terms (now (input .entry))) (now (mark .entry)) (now (mark .exit)) r ⌝ }
 {
     let mut text = streams::space();
-    tell_channels(&mut text, input, mark)
+    tell_channels(&mut text, input, terms, mark)
 }
 
 // Add, Withdraw or Move, on its input: the new image.
@@ -104,12 +111,23 @@ fn change(input: &[u8], mark: &mut usize) -> bool
 }
 
 // The distance between two sites, on its input.
-fn study(input: &[u8], mark: &mut usize) -> bool
-    ensures { λ r. ⌜ Tells (printedStudy (now (input .entry))) (now (mark .entry)) (now (mark .exit)) r ⌝ }
+fn distance(input: &[u8], mark: &mut usize) -> bool
+    ensures { λ r. ⌜ Tells (printedDistance (now (input .entry))) (now (mark .entry)) (now (mark .exit)) r ⌝ }
 {
     let mut text = [0u8; LINE];
     let answer = asked_distance(input);
     tell_distance(&mut text, answer, mark)
+}
+
+// A study, on its input.
+fn study(input: &[u8], mark: &mut usize) -> bool
+    ensures { λ r. ⌜ Tells (printedStudy (now (input .entry))) (now (mark .entry)) (now (mark .exit)) r ⌝ }
+{
+    match subject_of(input) {
+        Subject::Check(terms) => check(&input[AFTER_TERMS..], terms, mark),
+        Subject::Arrange(terms) => arrange(&input[AFTER_TERMS..], terms, mark),
+        Subject::Distance => distance(input, mark),
+    }
 }
 
 // The program that is named, on its input.
@@ -117,8 +135,8 @@ fn tell(program: Program, input: &[u8], mark: &mut usize) -> bool
     ensures { λ r. ⌜ Tells (printedBy program (now (input .entry))) (now (mark .entry)) (now (mark .exit)) r ⌝ }
 {
     match program {
-        Program::Check => check(input, mark),
-        Program::Arrange => arrange(input, mark),
+        Program::Check => check(input, PLAIN, mark),
+        Program::Arrange => arrange(input, PLAIN, mark),
         Program::Change => change(input, mark),
         Program::Study => study(input, mark),
     }

@@ -67,7 +67,7 @@ fn add_to(table: &[u8], n: usize, new: Station, image: &mut [u8]) -> u64
     if same < n {
         return refused(ID_PRESENT, same as u64);
     }
-    let blocker = first_short(table, n, new, n);
+    let blocker = first_short(table, n, new, id);
     if blocker < n {
         return refused(TOO_SHORT, blocker as u64);
     }
@@ -148,7 +148,7 @@ fn move_in(table: &[u8], n: usize, id: u64, channel: u64, image: &mut [u8]) -> u
         return refused(NOT_MOVABLE, p as u64);
     }
     let moved = on_channel(old, channel);
-    let blocker = first_short(table, n, moved, p);
+    let blocker = first_short(table, n, moved, id);
     if blocker < n {
         return refused(TOO_SHORT, blocker as u64);
     }

@@ -1,4 +1,5 @@
 // The question arrange, by plain enumeration.
+use super::answer::ID_ABSENT;
 use super::answer::NO_ROOM;
 use super::answer::refused;
 use super::judgement::judge;
@@ -7,6 +8,7 @@ use super::pairs::short;
 use super::proposal::fault;
 use super::proposal::proposed;
 use super::records::Station;
+use super::records::absent;
 use super::records::movable;
 use super::records::on_channel;
 use super::records::station_at;
@@ -14,14 +16,14 @@ use super::rows::put_row;
 ghost use Prim.Native.Nat.{_+_, _≤_, _<_};
 ghost use Rattle.second.specs.Answer.{Packed};
 
-// Whether a station at a position, on its new channel, is short neither to the new station nor to any other.
-fn clean(table: &[u8], n: usize, new: Station, p: usize, moved: Station) -> bool
+// Whether a station, on its new channel, is short neither to the new station nor to any other that is not left aside.
+fn clean(table: &[u8], n: usize, new: Station, moved: Station) -> bool
     requires { ⌜ n ≤ 2000 ⌝ }
 {
     if short(moved, new) {
         return false;
     }
-    first_short(table, n, moved, p) == n
+    first_short(table, n, moved, new.id) == n
 }
 
 // Writes the row that moves the station at a position to another channel if that is clean, and gives the place behind it.
@@ -41,7 +43,7 @@ fn put_clean(
     if channel == old.channel {
         return at;
     }
-    if !clean(table, n, new, p, on_channel(old, channel)) {
+    if !clean(table, n, new, on_channel(old, channel)) {
         return at;
     }
     put_row(rows, at, new.channel, old.id, channel)
@@ -68,7 +70,7 @@ fn put_channels(
     at
 }
 
-// Writes the rows that move the station at a position, and gives the place behind them.
+// Writes the rows that move the station at a position, none where it is left aside, and gives the place behind them.
 fn put_mover(
     table: &[u8],
     n: usize,
@@ -80,10 +82,14 @@ fn put_mover(
     requires { ⌜ (n ≤ 2000) × (p < n) × (start ≤ 900000000) ⌝ }
     ensures { λ r. ⌜ r ≤ start + 240 ⌝ }
 {
-    if !movable(station_at(table, p)) {
+    let old = station_at(table, p);
+    if old.id == new.id {
         return start;
     }
-    if first_short(table, n, new, p) < n {
+    if !movable(old) {
+        return start;
+    }
+    if first_short(table, n, new, old.id) < n {
         return start;
     }
     put_channels(table, n, new, p, rows, start)
@@ -94,7 +100,7 @@ fn put_channel(table: &[u8], n: usize, new: Station, rows: &mut [u32], start: us
     requires { ⌜ (n ≤ 2000) × (start ≤ 400000000) ⌝ }
     ensures { λ r. ⌜ r ≤ start + 480003 ⌝ }
 {
-    if first_short(table, n, new, n) == n {
+    if first_short(table, n, new, new.id) == n {
         return put_row(rows, start, new.channel, 0, 0);
     }
     let mut at = start;
@@ -158,7 +164,8 @@ fn count_arrange(table: &[u8], n: usize, first: u64, last: u64, new: Station) ->
     put_arrange(table, n, first, last, new, &mut none)
 }
 
-// The rows new channel, id moved, its new channel of the arrangements for a proposal on first to last.
+// The rows new channel, id moved, its new channel of the arrangements for a proposal on first to last; the station of an id is left
+// aside, 0 for none.
 pub fn arrange(
     table: &[u8],
     first: u32,
@@ -167,6 +174,7 @@ pub fn arrange(
     zone: u32,
     lat: i32,
     lon: i32,
+    aside: u32,
     rows: &mut [u32],
 ) -> u64
     ensures { λ r. do ⌜ Packed (← ⟦rows.len()⟧ .entry) r ⌝ }
@@ -181,7 +189,10 @@ pub fn arrange(
     if wrong != 0 {
         return refused(wrong, 0);
     }
-    let new = proposed(0, first, class, lat, lon);
+    if absent(table, n, aside as u64) {
+        return refused(ID_ABSENT, 0);
+    }
+    let new = proposed(aside, first, class, lat, lon);
     let need = count_arrange(table, n, first as u64, last as u64, new);
     if rows.len() < need {
         return refused(NO_ROOM, need as u64);

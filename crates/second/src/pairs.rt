@@ -14,17 +14,26 @@ pub(crate) fn short(a: Station, b: Station) -> bool {
     kilometres(a.north, a.east, b.north, b.east) < r
 }
 
-// The first position, one left aside, whose station is short to the given one; n where there is none.
-pub(crate) fn first_short(table: &[u8], n: usize, station: Station, aside: usize) -> usize
+// Whether a station is in the way of the given one: it has neither that one's id nor the id left aside, and is short to it.
+fn in_the_way(s: Station, station: Station, aside: u64) -> bool {
+    if s.id == station.id {
+        return false;
+    }
+    if s.id == aside {
+        return false;
+    }
+    short(station, s)
+}
+
+// The first position whose station is in the way of the given one, an id left aside; n where there is none.
+pub(crate) fn first_short(table: &[u8], n: usize, station: Station, aside: u64) -> usize
     requires { ⌜ n ≤ 2000 ⌝ }
     ensures { λ r. ⌜ r ≤ n ⌝ }
 {
     let mut i: usize = 0;
     while i < n {
-        if i != aside {
-            if short(station, station_at(table, i)) {
-                return i;
-            }
+        if in_the_way(station_at(table, i), station, aside) {
+            return i;
         }
         i += 1;
     }

@@ -4,7 +4,8 @@ use super::big_endian::one;
 use super::big_endian::two;
 ghost use Prim.Native.Nat.{_≤_, _<_};
 
-// A station or a proposal; the site counts from the southern and the western end of its range.
+// A station or a proposal; the site counts from the southern and the western end of its range. What is proposed to check or arrange
+// has the id of the station left aside, 0 for none.
 pub(crate) struct Station {
     pub(crate) id: u64,
     pub(crate) channel: u64,
@@ -97,4 +98,14 @@ pub(crate) fn position(table: &[u8], n: usize, id: u64) -> usize
         return p;
     }
     n
+}
+
+// Whether an id other than 0 is that of no station.
+pub(crate) fn absent(table: &[u8], n: usize, id: u64) -> bool
+    requires { ⌜ n ≤ 2000 ⌝ }
+{
+    if id == 0 {
+        return false;
+    }
+    position(table, n, id) == n
 }

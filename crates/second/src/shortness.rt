@@ -1,10 +1,12 @@
 // The question check.
+use super::answer::ID_ABSENT;
 use super::answer::NO_ROOM;
 use super::answer::refused;
 use super::judgement::judge;
 use super::proposal::fault;
 use super::proposal::proposed;
 use super::records::Station;
+use super::records::absent;
 use super::records::station_at;
 use super::rows::put_row;
 use second_rule::kilometres;
@@ -12,11 +14,14 @@ use second_rule::separation;
 ghost use Prim.Native.Nat.{_+_, _≤_};
 ghost use Rattle.second.specs.Answer.{Packed};
 
-// Writes the row of a station if it is short to the proposal, and gives the place behind it.
+// Writes the row of a station if it is short to the proposal and not left aside, and gives the place behind it.
 fn put_short(new: Station, s: Station, rows: &mut [u32], at: usize) -> usize
     requires { ⌜ at ≤ 1000000000 ⌝ }
     ensures { λ r. ⌜ r ≤ at + 3 ⌝ }
 {
+    if s.id == new.id {
+        return at;
+    }
     let r = separation(new.channel, new.class, s.channel, s.class);
     if r == 0 {
         return at;
@@ -51,7 +56,7 @@ fn count_check(table: &[u8], n: usize, new: Station) -> usize
     put_check(table, n, new, &mut none)
 }
 
-// The rows id, D, R of the stations that are short to a proposal.
+// The rows id, D, R of the stations that are short to a proposal; the station of an id is left aside, 0 for none.
 pub fn check(
     table: &[u8],
     channel: u32,
@@ -59,6 +64,7 @@ pub fn check(
     zone: u32,
     lat: i32,
     lon: i32,
+    aside: u32,
     rows: &mut [u32],
 ) -> u64
     ensures { λ r. do ⌜ Packed (← ⟦rows.len()⟧ .entry) r ⌝ }
@@ -73,7 +79,10 @@ pub fn check(
     if wrong != 0 {
         return refused(wrong, 0);
     }
-    let new = proposed(0, channel, class, lat, lon);
+    if absent(table, n, aside as u64) {
+        return refused(ID_ABSENT, 0);
+    }
+    let new = proposed(aside, channel, class, lat, lon);
     let need = count_check(table, n, new);
     if rows.len() < need {
         return refused(NO_ROOM, need as u64);

@@ -19,12 +19,13 @@ use Rattle.spacing.specs.Reaching.{Seconds, Fair, Surrounds}
 use Rattle.spacing.specs.declared.Around.{Around}
 use Rattle.spacing.specs.declared.Place.{Place}
 use Rattle.stations.specs.Image.{stationAt, Accepted}
-use Rattle.survey.specs.Ways.{placeOf, near, everyRecord}
-use Rattle.survey.specs.Marks.{blocks, Marked}
-use Rattle.survey.specs.Walking.{Skipped}
+use Rattle.stations.specs.declared.Station.{Station}
+use Rattle.survey.specs.Ways.{placeOf, near}
+use Rattle.survey.specs.Walking.{blocks, Skipped}
+use Rattle.marking.specs.Marks.{Marked}
 use Rattle.survey.proofs.Records.{known-at}
-use Rattle.survey.proofs.Marks.{marked-skip}
-use Rattle.survey.proofs.Shorts.{blocks-every}
+use Rattle.marking.proofs.Marks.{marked-skip}
+use Rattle.survey.proofs.Shorts.{blocks-spaced}
 
 -- ---- one test for a number that is near another
 
@@ -91,5 +92,5 @@ module _ (s : List ℕ) (e : Accepted s) {p : Place} {a : Around} (w : Surrounds
       w .clear (placeOf (stationAt s j)) (known-at s e j (omega (arith, k .upto)) .placed) (k .each-one j l u) m (stationAt s j .channel)
 
   -- so the marks stay as they are
-  pub marked-on : {first last : ℕ} {marks : List ℕ} → Marked (λ m j. blocks tableA everyRecord s (sited p m) j) first last from marks → Marked (λ m j. blocks tableA everyRecord s (sited p m) j) first last to marks
-  marked-on = marked-skip (k .on) (λ j l u m f g. sym (blocks-every s (sited p m) j) ∙ beyond-clear j l u m)
+  pub marked-on : (look : Station → Bool) {first last : ℕ} {marks : List ℕ} → Marked (λ m j. blocks tableA look s (sited p m) j) first last from marks → Marked (λ m j. blocks tableA look s (sited p m) j) first last to marks
+  marked-on look = marked-skip (k .on) (λ j l u m f g. blocks-spaced look s (sited p m) j (beyond-clear j l u m))

@@ -1,7 +1,7 @@
 -- The pair rule for a station that may be on any channel from 221 on, by what two stations reach; and for the records of a
 -- table that a question looks at. Assumes nothing.
-use mathlib.Core.Path.{_≡_, refl, sym, _∙_}
-use mathlib.Core.Bool.{false}
+use mathlib.Core.Path.{_≡_, sym, _∙_}
+use mathlib.Core.Bool.{Bool, true, false, and-false}
 use mathlib.Core.List.{List}
 use mathlib.Core.Logic.{inl}
 use Prim.Native.Nat.{ℕ, _≤_}
@@ -15,8 +15,9 @@ use Rattle.spacing.specs.declared.Place.{Place}
 use Rattle.spacing.specs.declared.Reach.{Reach}
 use Rattle.spacing.proofs.Rule.{for-open, open-high, no-column}
 use Rattle.stations.specs.Image.{stationAt}
-use Rattle.survey.specs.Ways.{everyRecord, near}
-use Rattle.survey.specs.Marks.{blocks}
+use Rattle.stations.specs.declared.Station.{Station}
+use Rattle.survey.specs.Ways.{near}
+use Rattle.survey.specs.Walking.{blocks}
 
 -- what is reached says on which channels
 pub hit-at : {km : ℕ → ℕ → ℕ → ℕ} {p q : Place} {r : Reach} → Reaches km p q r → (m c : ℕ) → lowest ≤ m → hits r (gap m c) ≡ shortBy km (sited p m) (sited q c)
@@ -26,7 +27,17 @@ hit-at w m c lo = sym (w .tells m c (open-high m c (inl lo)))
 pub untouched-at : {p q : Place} → InRange p → InRange q → (m c : ℕ) → lowest ≤ m → column (gap m c) ≡ none → false ≡ shortBy tableA (sited p m) (sited q c)
 untouched-at {p} {q} mine their m c lo e = sym (no-column table-a p q mine their m c (for-open m c (open-high m c (inl lo)) ∙ e))
 
--- a question that looks at every record
-pub blocks-every : (s : List ℕ) (p : Assignment) (j : ℕ) → near tableA p (stationAt s j) ≡ blocks tableA everyRecord s p j
-unfolding blocks
-blocks-every s p j = refl
+-- ---- a record stands in the way where it is looked at and short
+
+module _ (look : Station → Bool) (s : List ℕ) (p : Assignment) (j : ℕ) where
+  pub blocks-looked : look (stationAt s j) ≡ true → near tableA p (stationAt s j) ≡ blocks tableA look s p j
+  unfolding blocks
+  blocks-looked l = rw l
+
+  pub blocks-aside : look (stationAt s j) ≡ false → blocks tableA look s p j ≡ false
+  unfolding blocks
+  blocks-aside l = rw l
+
+  pub blocks-spaced : near tableA p (stationAt s j) ≡ false → blocks tableA look s p j ≡ false
+  unfolding blocks
+  blocks-spaced e = rw (e, and-false (look (stationAt s j)))

@@ -3,13 +3,14 @@
 use mathlib.Core.Path.{_≡_, refl, ap, _∙_}
 use mathlib.Core.Bool.{Bool, true, false, cond, not, _&&_, _||_}
 use mathlib.Core.List.{List, [], map}
+use mathlib.Core.Logic.{_↔_}
 use Prim.Native.Nat.{ℕ, _<_}
 use native.Mathlib.Omega.{arith}
 use native.Mathlib.Decide.{ℕ-discrete, decLt}
 use lib.Dec.{eqb}
-use borrow.Author.Tests.{eq-eqb, ne-eqb}
-use Rattle.ground.specs.Lists.{span, build, keep, every, each}
-use Rattle.ground.proofs.Order.{in-span, Ascending, By, ascending-keep}
+use borrow.Author.Tests.{eq-eqb, ne-eqb, eqb-false, not-true}
+use Rattle.ground.specs.Lists.{_∈_, span, build, keep, every, each}
+use Rattle.ground.proofs.Order.{in-keep, in-span, Ascending, By, ascending-keep}
 use Rattle.ground.proofs.Keeps.{keep-map, every-map, each-map, build-span, keep-keep, every-keep, each-keep, keep-all, every-cong}
 use Rattle.spacing.specs.Pair.{Assignment}
 use Rattle.stations.specs.Image.{stationAt, stations, judged}
@@ -18,8 +19,10 @@ use Rattle.stations.specs.declared.Station.{Station}
 use Rattle.stations.specs.declared.Judged.the-variants.{Table}
 use Rattle.stations.proofs.Table.{whole}
 use Rattle.stations.proofs.Places.{ids-ascend, ascends-at}
-use Rattle.survey.specs.Ways.{everyRecord, studied, near, clear}
-use Rattle.survey.specs.Marks.{blocks}
+use Rattle.stations.proofs.Fine.{good}
+use Rattle.survey.specs.Ways.{looked, studied, near, clear}
+use Rattle.survey.specs.Walking.{blocks}
+use Rattle.survey.specs.declared.Terms.{Terms}
 
 nobody : (l h : Bool) → (not l || not h) ≡ not (l && h)
 nobody true h = refl
@@ -31,10 +34,17 @@ nobody-but true false h = refl
 nobody-but false true h = refl
 nobody-but false false h = refl
 
--- today all are
-pub studied-all : (ss : List Station) → studied ss ≡ ss
-unfolding studied
-studied-all ss = keep-all everyRecord ss (λ x m. refl)
+-- studied are exactly those that do not have the id left aside
+pub studied-exactly : (t : Terms) (ss : List Station) (x : Station) → (x ∈ studied t ss) ↔ ((x ∈ ss) × (x .id ≡ t .aside → ⊥))
+unfolding studied looked
+studied-exactly t ss x =
+    let k = in-keep {x = x} (looked t) ss in
+    (λ m. (k .0 m .0, eqb-false (x .id) (t .aside) (not-true _ (k .0 m .1))), λ m. k .1 (m .0, rw (ne-eqb (x .id) (t .aside) (m .1))))
+
+-- they are those of the table without the record left aside
+pub studied-without : (t : Terms) (ss : List Station) → studied t ss ≡ without (t .aside) ss
+unfolding studied looked without
+studied-without t ss = refl
 
 module _ (s : List ℕ) (n : ℕ) (e : judged s ≡ Table n) where
   pub stations-at : stations s ≡ map (stationAt s) (span 0 n)
@@ -42,9 +52,14 @@ module _ (s : List ℕ) (n : ℕ) (e : judged s ≡ Table n) where
   stations-at = ap (λ (k : ℕ). build k (stationAt s)) (whole s n e .counted) ∙ build-span n (stationAt s)
 
   -- the ids of those that are studied ascend
-  pub studied-ascend : Ascending (By (λ r. r .id)) (studied (stations s))
+  pub studied-ascend : (t : Terms) → Ascending (By (λ r. r .id)) (studied t (stations s))
   unfolding studied
-  studied-ascend = ascending-keep everyRecord (stations s) (ids-ascend s n e)
+  studied-ascend t = ascending-keep (looked t) (stations s) (ids-ascend s n e)
+
+  -- with the id 0 they are all, for no record has it
+  pub studied-whole : (t : Terms) → t .aside ≡ 0 → studied t (stations s) ≡ stations s
+  unfolding studied looked
+  studied-whole t z = keep-all (looked t) (stations s) (λ x m. rw (ne-eqb (x .id) (t .aside) (λ q. omega (arith, q, z, good s n e .each x m .counts))))
 
   -- an id stands at one position only
   pub same-id : (i j : ℕ) → i < n → j < n → eqb (stationAt s j .id) (stationAt s i .id) ≡ eqb j i

@@ -1,6 +1,6 @@
 -- Inside: a walk over the records of a table, and what it asks. Assumes nothing.
 use mathlib.Core.Path.{_≡_}
-use mathlib.Core.Bool.{Bool, true}
+use mathlib.Core.Bool.{Bool, true, _&&_}
 use mathlib.Core.List.{List}
 use Prim.Native.Nat.{ℕ, _≤_}
 use lib.IntN.{ℤ, natAbs, _-ℤ_}
@@ -10,14 +10,20 @@ use mir.Val.{toZ}
 use Rattle.ground.specs.Passing.{Passing}
 use Rattle.part73.specs.Channels.{channelCount}
 use Rattle.part73.specs.TableA.{tableA}
+use Rattle.spacing.specs.Pair.{Assignment}
 use Rattle.spacing.specs.Limits.{LimitsAt}
 use Rattle.spacing.specs.Reaching.{InRange, Beyond, Fair}
 use Rattle.spacing.specs.declared.Around.{Around}
 use Rattle.spacing.specs.declared.Place.{Place}
 use Rattle.stations.specs.Image.{stationAt, count, Accepted}
 use Rattle.stations.specs.declared.Station.{Station}
-use Rattle.survey.specs.Marks.{Asked}
-use Rattle.survey.specs.declared.Channels.{Channels}
+use Rattle.marking.specs.Marks.{Asked}
+use Rattle.marking.specs.declared.Channels.{Channels}
+use Rattle.survey.specs.Ways.{near}
+
+-- the record at a position is looked at, and p is short to it
+unfoldable pub blocks : (ℕ → ℕ → ℕ → ℕ) → (Station → Bool) → List ℕ → Assignment → ℕ → Bool
+blocks km look s p j = look (stationAt s j) && near km p (stationAt s j)
 
 -- where r says so, the number with the bits x is at least `far` from z
 pub record Away (z : ℤ) (x far : ℕ) (r : Bool) : Type 0 where

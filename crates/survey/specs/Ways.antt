@@ -1,11 +1,13 @@
 -- Which stations a question studies, and who stands in the way of a station: those that it is short to. Assumes nothing.
-use mathlib.Core.Bool.{Bool, true, not}
+use mathlib.Core.Bool.{Bool, not}
 use mathlib.Core.List.{List}
 use Prim.Native.Nat.{ℕ}
 use Rattle.ground.specs.Lists.{keep, every}
 use Rattle.spacing.specs.Pair.{Assignment, sited, shortBy}
 use Rattle.spacing.specs.declared.Place.{Place}
+use Rattle.stations.specs.Lists.{hasId}
 use Rattle.stations.specs.declared.Station.{Station}
+use Rattle.survey.specs.declared.Terms.{Terms}
 
 -- the class and site of a station
 abbrev pub placeOf : Station → Place
@@ -18,13 +20,14 @@ onChannel channel r = sited (placeOf r) channel
 abbrev pub asItStands : Station → Assignment
 asItStands r = onChannel (r .channel) r
 
--- which records a question looks at: every one
-abbrev pub everyRecord : Station → Bool
-everyRecord r = true
+-- 02, R-1: which records a question looks at, by its terms: all but the one with the id left aside. No record has the id 0, so
+-- with 0 it looks at every one
+unfoldable pub looked : Terms → Station → Bool
+looked t r = not (hasId (t .aside) r)
 
--- the stations that a question studies
-unfoldable pub studied : List Station → List Station
-studied ss = keep everyRecord ss
+-- the stations that it studies
+unfoldable pub studied : Terms → List Station → List Station
+studied t ss = keep (looked t) ss
 
 -- what is proposed, p, is short to a station, by a table of separations
 abbrev pub near : (ℕ → ℕ → ℕ → ℕ) → Assignment → Station → Bool

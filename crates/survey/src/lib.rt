@@ -4,16 +4,15 @@ ghost use mathlib.Core.Path.{_≡_};
 ghost use Prim.Native.Nat.{_<_};
 ghost use Rattle.part73.specs.TableA.{tableA};
 ghost use Rattle.spacing.specs.Pair.{sited};
-ghost use Rattle.stations.specs.Image.{stationAt, count};
-ghost use Rattle.survey.specs.Ways.{placeOf, everyRecord, near};
-ghost use Rattle.survey.specs.Marks.{blocks, Marked, Struck};
-ghost use Rattle.survey.specs.Walking.{Walk, Survey};
+ghost use Rattle.stations.specs.Image.{count};
+ghost use Rattle.survey.specs.Ways.{placeOf, looked};
+ghost use Rattle.marking.specs.Marks.{Marked, Struck};
+ghost use Rattle.survey.specs.Walking.{blocks, Walk, Survey};
 
 mod closeness;
-mod marking;
 
 use closeness::next_close;
-pub use marking::MANY;
+use marking::Channels;
 use marking::strike;
 use marking::touches;
 use marking::wipe;
@@ -21,10 +20,9 @@ use spacing::Limits;
 use spacing::Place;
 use stations::Station;
 
-// New channels, from first to last.
-pub struct Channels {
-    pub first: usize,
-    pub last: usize,
+// What a question goes by beside class and site: the id of the record that it leaves aside, 0 for none.
+pub struct Terms {
+    pub aside: u32,
 }
 
 // The class and site of a station.
@@ -38,34 +36,55 @@ pub fn place_of(r: Station) -> Place
     }
 }
 
-// Whether a station at a place, on a channel, is short to the record at position i.
-pub fn short_at(table: &[u8], i: usize, channel: usize, place: Place, limits: &Limits) -> bool
+// Whether a question looks at a record.
+fn looks(terms: Terms, r: Station) -> bool
+    ensures { λ b. ⌜ b ≡ looked terms r ⌝ }
+{
+    r.id != terms.aside
+}
+
+// Whether a station at a place, on a channel, is short to the record at position i, where it is looked at.
+pub fn short_at(
+    table: &[u8],
+    i: usize,
+    terms: Terms,
+    channel: usize,
+    place: Place,
+    limits: &Limits,
+) -> bool
     requires { ⌜ (Walk (now table) place (now limits)) × (i < count (now table)) ⌝ }
-    ensures { λ r. ⌜ r ≡ near tableA (sited place channel) (stationAt (now (table .entry)) i) ⌝ }
+    ensures { λ r. ⌜ r ≡ blocks tableA (looked terms) (now (table .entry)) (sited place channel) i ⌝ }
 {
     let r = stations::station_at(table, i);
     let c = r.channel as usize;
     let theirs = place_of(r);
-    spacing::is_short(channel, place, limits, c, theirs)
+    if spacing::is_short(channel, place, limits, c, theirs) {
+        return looks(terms, r);
+    }
+    false
 }
 
 // Marks the channels on which the record at position i stands in the way.
 fn look_at(
     table: &[u8],
     i: usize,
+    terms: Terms,
     place: Place,
     limits: &Limits,
     channels: Channels,
     marks: &mut [u16; part73::CHANNEL_COUNT],
 )
     requires { ⌜ (Survey (now table) place (now limits) channels (now marks)) × (i < count (now table)) ⌝ }
-    ensures { λ _. ⌜ Struck (λ m. blocks tableA everyRecord (now (table .entry)) (sited place m) i) (channels .first) (channels .last) i (now (marks .entry)) (now (marks .exit)) ⌝ }
+    ensures { λ _. ⌜ Struck (λ m. blocks tableA (looked terms) (now (table .entry)) (sited place m) i) (channels .first) (channels .last) i (now (marks .entry)) (now (marks .exit)) ⌝ }
 {
     let r = stations::station_at(table, i);
     let c = r.channel as usize;
     if touches(c, channels) {
         let theirs = place_of(r);
         if spacing::apart(place, limits, theirs) {
+            return;
+        }
+        if !looks(terms, r) {
             return;
         }
         let lat = place.latitude;
@@ -82,13 +101,14 @@ fn look_at(
 // The marks of new channels.
 pub fn survey(
     table: &[u8],
+    terms: Terms,
     place: Place,
     limits: &Limits,
     channels: Channels,
     marks: &mut [u16; part73::CHANNEL_COUNT],
 )
     requires { ⌜ Survey (now table) place (now limits) channels (now marks) ⌝ }
-    ensures { λ _. ⌜ Marked (λ m j. blocks tableA everyRecord (now (table .entry)) (sited place m) j) (channels .first) (channels .last) (count (now (table .entry))) (now (marks .exit)) ⌝ }
+    ensures { λ _. ⌜ Marked (λ m j. blocks tableA (looked terms) (now (table .entry)) (sited place m) j) (channels .first) (channels .last) (count (now (table .entry))) (now (marks .exit)) ⌝ }
 {
     wipe(marks);
     let n = stations::count_of(table);
@@ -100,7 +120,7 @@ pub fn survey(
         if n <= i {
             return;
         }
-        look_at(table, i, place, limits, channels, marks);
+        look_at(table, i, terms, place, limits, channels, marks);
         from = i + 1;
     }
 }

@@ -14,17 +14,17 @@ pub type Notes = [u64; 183];
 pub const DIGEST: usize = 182;
 
 // Mixes a number into the digest.
-pub fn mix(notes: &mut Notes, value: u64) {
+pub(crate) fn mix(notes: &mut Notes, value: u64) {
     notes[DIGEST] = std::num::wrapping_add_u64(mixed(notes[DIGEST]), value);
 }
 
 // The refusal's number of an answer, 0 where it is granted.
-pub fn number_of(answer: u64) -> u64 {
+pub(crate) fn number_of(answer: u64) -> u64 {
     answer / 4_294_967_296
 }
 
 // The low half of an answer.
-pub fn extra_of(answer: u64) -> u64
+pub(crate) fn extra_of(answer: u64) -> u64
     ensures { λ r. ⌜ r < 4294967296 ⌝ }
 {
     answer % 4_294_967_296
@@ -57,7 +57,7 @@ fn can_refuse(kind: u32, number: u64) -> bool {
         18 | 19 | 21 => kind == ADD,
         20 => kind == ADD || kind == MOVE,
         22 => true,
-        23 => kind == WITHDRAW || kind == MOVE,
+        23 => kind != ADD,
         25 => kind == MOVE,
         _ => false,
     }

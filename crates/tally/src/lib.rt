@@ -1,14 +1,22 @@
-// The answers of `fm_cases` counted by question and number, mixed into a digest, and the first difference shown.
+// The answers of `fm_cases` compared, counted by question and number and mixed into a digest, and the first difference shown.
 mod counts;
+mod likeness;
+mod room;
+mod rows;
 mod shown;
 
 pub use counts::DIGEST;
 pub use counts::Notes;
-pub use counts::extra_of;
-pub use counts::mix;
 pub use counts::note;
-pub use counts::number_of;
 pub use counts::print_counts;
-pub use shown::long;
-pub use shown::report;
-pub use shown::wide;
+pub use likeness::alike_bytes;
+pub use likeness::alike_rows;
+pub use likeness::same;
+pub use room::least;
+pub use room::needed;
+pub use room::room_for;
+pub use rows::MOST;
+pub use rows::Row;
+pub use rows::seventy_three;
+pub use rows::stands;
+pub use shown::unlike;

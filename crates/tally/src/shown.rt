@@ -10,7 +10,7 @@ fn print_number(value: u64) {
 }
 
 // A number as a wide one.
-pub fn long(x: u32) -> u64 {
+pub(crate) fn long(x: u32) -> u64 {
     x as u64
 }
 
@@ -51,7 +51,7 @@ fn print_answer(answer: u64) {
 }
 
 // A byte as a wide number.
-pub fn wide(x: u8) -> u64 {
+pub(crate) fn wide(x: u8) -> u64 {
     x as u64
 }
 
@@ -66,7 +66,7 @@ fn print_bytes(bytes: &[u8]) {
 }
 
 // Writes the question, both answers, the room, up to where the buffers are alike, and the table.
-pub fn report(q: Question, table: &[u8], room: usize, one: u64, two: u64, at: usize) {
+pub(crate) fn report(q: Question, table: &[u8], room: usize, one: u64, two: u64, at: usize) {
     print_question(q);
     io::write_all(1, b"\nfirst answer, second answer, room, places alike:");
     print_answer(one);
@@ -75,4 +75,11 @@ pub fn report(q: Question, table: &[u8], room: usize, one: u64, two: u64, at: us
     print_number(at as u64);
     io::write_all(1, b"\ntable ");
     print_bytes(table);
+}
+
+// Writes that an answer is not the paper's.
+pub fn unlike(q: Question, table: &[u8], answer: u64, paper: u64) -> bool {
+    io::write_all(1, b"the second number is the paper's\n");
+    report(q, table, 0, answer, paper, 0);
+    false
 }

@@ -1,10 +1,18 @@
-// Big-endian numbers in a slice of bytes: 16 and 32 bits, and 32 bits signed.
+// Big-endian numbers in a slice of bytes: 8, 16 and 32 bits, and 32 bits signed.
 ghost use mathlib.Core.Path.{_≡_};
-ghost use Prim.Native.Nat.{_+_, _≤_};
+ghost use Prim.Native.Nat.{_+_, _≤_, _<_};
 ghost use lib.ListN.{length};
 ghost use mir.Syntax.{w32};
 ghost use mir.Val.{toZ, ofZ};
 ghost use Rattle.wire.specs.Be.{be, put};
+
+// The number of one byte, as wide as a number that is asked.
+pub fn get8(s: &[u8], at: usize) -> u32
+    requires { ⌜ at < length (now s) ⌝ }
+    ensures { λ r. ⌜ r ≡ be 1 (now (s .entry)) at ⌝ }
+{
+    s[at] as u32
+}
 
 pub fn get16(s: &[u8], at: usize) -> u16
     requires { ⌜ at + 2 ≤ length (now s) ⌝ }

@@ -1,14 +1,11 @@
 -- `arrangements::arrange` meets its contract. Assumes nothing.
-use mathlib.Core.Path.{_≡_, sym, _∙_}
+use mathlib.Core.Path.{sym, _∙_}
 use denote.Ref.{now}
-use mir.Syntax.{w32}
-use mir.Val.{toZ, ofZ}
-use mir.ValLaws.{toZ-ofZ}
 use borrow.Author.Needs.{needs}
 use Rattle.stations.specs.Image.{Accepted}
-use Rattle.stations.specs.declared.Verdict.the-variants.{Sound}
-use Rattle.arrangements.specs.declared.Wanted.{Wanted}
-use Rattle.arrangements.proofs.Asked.{fault, accepted, passed, table-left, asked-left, listed}
+use Rattle.stations.proofs.Stages.{is-accepted}
+use Rattle.studies.proofs.Ways.{passed, table-left, wanted-left, passed-on}
+use Rattle.arrangements.specs.Arrange.{arrangedFor}
 use Rattle.arrangements.proofs.arrange.Statement.{statement}
 use Rattle.arrangements.proofs.arrange.Tie as tie
 
@@ -25,73 +22,58 @@ left-requires : tie.Need-left-requires
 left-requires c κs = search needs
 
 returns : tie.Need-returns
-returns c =
-    let j = c .before .before .before in
-    let s = j .before .before .before in
-    rw (c .left .ensures) (table-left (now (s .args .table)) (s .args .wanted) (now (s .args .rows)) _ _ (j .judge .ensures) (c .before .enum-told2 .given .1))
+unfolding arrangedFor
+returns c = rw (c .left .ensures) (table-left _ _ _ _ _ _ (c .before .before .before .judge .ensures) (c .before .enum-told2 .given .1))
 
--- the table is accepted, and this is what is found of the question
-module _ (c : tie.After-asked-fault) where
-  abbrev s : tie.Start
-  s = c .before .before .before .before .before .before .before .before
+-- the table is accepted
+whole : (c : tie.After-enum-told) → Accepted (now (c .before .before .before .before .before .args .table))
+whole c = is-accepted _ _ (sym (c .before .before .judge .ensures) ∙ c .enum-told .given .1)
 
-  abbrev w : Wanted
-  w = s .args .wanted
-
-  whole : Accepted (now (s .args .table))
-  whole = let t = c .before .before .before in accepted _ (sym (t .before .before .judge .ensures) ∙ t .enum-told .given .1)
-
-  north : toZ w32 (ofZ w32 (w .latitude)) ≡ w .latitude
-  north = toZ-ofZ w32 _ (record { sfits = c .before .before .struct-told .given .1 .1 .1 .1 .0 .1 })
-
-  east : toZ w32 (ofZ w32 (w .longitude)) ≡ w .longitude
-  east = toZ-ofZ w32 _ (record { sfits = c .before .before .struct-told .given .1 .1 .1 .1 .1 .0 .1 })
-
-  found : c .asked-fault .result ≡ fault w
-  found = simp (north, east) at (c .asked-fault .ensures)
-
-asked-fault-requires : tie.Need-asked-fault-requires
-asked-fault-requires c κs = search needs
+fault-of-requires : tie.Need-fault-of-requires
+fault-of-requires c κs = whole c
 
 enum-known-v : tie.Need-enum-known-v
 enum-known-v c = search needs
 
 returns-2 : tie.Need-returns-2
+unfolding arrangedFor
 returns-2 c =
-    let a = c .before .before .before in
-    asked-left _ _ _ _ (whole a) (sym (found a) ∙ c .before .v .given .1)
+    let v = c .before .before .before in
+    wanted-left _ _ _ (whole (v .before)) _ _ (sym (v .fault-of .ensures) ∙ c .before .v .given .1)
 
 enum-told-3 : tie.Need-enum-told-3
 enum-told-3 c = search needs
 
-cast-kind : tie.Need-cast-kind
-cast-kind c = search needs
+terms-asked-requires : tie.Need-terms-asked-requires
+terms-asked-requires c κs = search needs
 
-cast-from : tie.Need-cast-from
-cast-from c = search needs
+place-asked-requires : tie.Need-place-asked-requires
+place-asked-requires c κs = search needs
 
-cast-to : tie.Need-cast-to
-cast-to c = search needs
-
--- nothing is wrong with the question
-sound : (c : tie.After-enum-told3) → fault (w (c .before .before)) ≡ Sound
-sound c = sym (found (c .before .before)) ∙ c .enum-told3 .given .1
+channels-asked-requires : tie.Need-channels-asked-requires
+channels-asked-requires c κs = search needs
 
 list-asked-requires : tie.Need-list-asked-requires
 list-asked-requires c κs =
-    let e = c .before in
-    let a = e .before .before in
-    simp (north a, east a) (passed _ (w a) (whole a) (sound e))
+    let h = c .before in
+    let p = h .before in
+    let e = p .before .before in
+    let v = e .before .before in
+    rw (p .place-asked .ensures, h .channels-asked .ensures) (passed _ _ (whole (v .before)) (sym (v .fault-of .ensures) ∙ e .enum-told3 .given .1))
 
 same-length : tie.Need-same-length
 same-length c = search needs
 
 returns-3 : tie.Need-returns-3
+unfolding arrangedFor
 returns-3 c =
     let l = c .before .before in
-    let e = l .before .before in
-    let a = e .before .before in
-    listed _ _ (whole a) (sound e) (simp (north a, east a) at (l .list-asked .ensures))
+    let h = l .before .before in
+    let p = h .before in
+    let t = p .before in
+    let e = t .before in
+    let v = e .before .before in
+    passed-on _ _ _ (whole (v .before)) (sym (v .fault-of .ensures) ∙ e .enum-told3 .given .1) (rw (p .place-asked .ensures, h .channels-asked .ensures, t .terms-asked .ensures) at (l .list-asked .ensures))
 
 pub arrange-spec : {M : Type 1} → statement M
 arrange-spec =
@@ -102,13 +84,13 @@ arrange-spec =
     enum-told-2
     left-requires
     returns
-    asked-fault-requires
+    fault-of-requires
     enum-known-v
     returns-2
     enum-told-3
-    cast-kind
-    cast-from
-    cast-to
+    terms-asked-requires
+    place-asked-requires
+    channels-asked-requires
     list-asked-requires
     same-length
     returns-3)

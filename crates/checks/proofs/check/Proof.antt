@@ -1,31 +1,14 @@
 -- `checks::check` meets its contract. Assumes nothing.
-use mathlib.Core.Path.{_≡_, sym, _∙_}
-use mir.Syntax.{w32}
-use mir.Val.{toZ, ofZ}
-use mir.ValLaws.{toZ-ofZ}
+use mathlib.Core.Path.{_≡_, sym, ap, _∙_}
 use denote.Ref.{now}
 use borrow.Author.Needs.{needs}
-use Rattle.stations.specs.Image.{judged}
-use Rattle.stations.specs.declared.Judged.the-variants.{Table}
+use Rattle.stations.specs.Image.{stations, Accepted}
 use Rattle.stations.proofs.Stages.{is-accepted}
-use Rattle.desk.specs.Asked.{askedFault}
-use Rattle.desk.proofs.Answers.{table-refused, table-passed, asked-refused, asked-passed}
-use Rattle.desk.proofs.Asked.{fair}
-use Rattle.checks.specs.Check.{checkedFor}
+use Rattle.studies.specs.Studies.{studyFault}
+use Rattle.studies.proofs.Ways.{passed, table-left, wanted-left, passed-on}
+use Rattle.checks.specs.Check.{onOne, checkedFor}
 use Rattle.checks.proofs.check.Statement.{statement}
 use Rattle.checks.proofs.check.Tie as tie
-
-told : (c : tie.After-enum-told) → judged (now (c .before .before .before .before .before .args .table)) ≡ Table (c .enum-told .given .0 .0)
-told c = sym (c .before .before .judge .ensures) ∙ c .enum-told .given .1
-
-lat-back : (c : tie.After-struct-told) → let p = c .before .before .before .before .before .before .args .proposal in toZ w32 (ofZ w32 (p .latitude)) ≡ p .latitude
-lat-back c = toZ-ofZ w32 _ (record { sfits = c .struct-told .given .1 .1 .1 .0 .1 })
-
-lon-back : (c : tie.After-struct-told) → let p = c .before .before .before .before .before .before .args .proposal in toZ w32 (ofZ w32 (p .longitude)) ≡ p .longitude
-lon-back c = toZ-ofZ w32 _ (record { sfits = c .struct-told .given .1 .1 .1 .1 .0 .1 })
-
-verdict : (c : tie.After-asked-fault) → let p = c .before .before .before .before .before .before .before .before .args .proposal in c .asked-fault .result ≡ askedFault (p .channel) (p .channel) (p .class) (p .zone) (p .latitude) (p .longitude)
-verdict c = simp (lat-back (c .before .before), lon-back (c .before .before)) at (c .asked-fault .ensures)
 
 judge-requires : tie.Need-judge-requires
 judge-requires c κs = search needs
@@ -41,40 +24,53 @@ left-requires c κs = search needs
 
 returns : tie.Need-returns
 unfolding checkedFor
-returns c =
-    let j = c .before .before .before in
-    rw (c .left .ensures, ← j .judge .ensures) (table-refused _ _ _ _ (c .before .enum-told2 .given .1))
+returns c = rw (c .left .ensures) (table-left _ _ _ _ _ _ (c .before .before .before .judge .ensures) (c .before .enum-told2 .given .1))
 
-asked-fault-requires : tie.Need-asked-fault-requires
-asked-fault-requires c κs = search needs
+-- the table is accepted
+whole : (c : tie.After-enum-told) → Accepted (now (c .before .before .before .before .before .args .table))
+whole c = is-accepted _ _ (sym (c .before .before .judge .ensures) ∙ c .enum-told .given .1)
+
+on-one-requires : tie.Need-on-one-requires
+on-one-requires c κs = search needs
+
+fault-of-requires : tie.Need-fault-of-requires
+fault-of-requires c κs = whole (c .before)
 
 enum-known-v : tie.Need-enum-known-v
 enum-known-v c = search needs
+
+-- this is what is found of the proposal
+found : (c : tie.After-fault-of) → let s = c .before .before .before .before .before .before .before in c .fault-of .result ≡ studyFault (stations (now (s .args .table))) (onOne (s .args .proposal))
+found c =
+    let s = c .before .before .before .before .before .before .before in
+    c .fault-of .ensures ∙ ap (studyFault (stations (now (s .args .table)))) (c .before .on-one .ensures)
 
 returns-2 : tie.Need-returns-2
 unfolding checkedFor
 returns-2 c =
     let v = c .before .before .before in
-    let t = v .before .before .before in
-    table-passed _ _ (told t) (rw (← verdict v) (asked-refused _ _ _ _ (c .before .v .given .1)))
+    wanted-left _ _ _ (whole (v .before .before)) _ _ (sym (found v) ∙ c .before .v .given .1)
 
 enum-told-3 : tie.Need-enum-told-3
 enum-told-3 c = search needs
 
+terms-asked-requires : tie.Need-terms-asked-requires
+terms-asked-requires c κs = search needs
+
+place-asked-requires : tie.Need-place-asked-requires
+place-asked-requires c κs = search needs
+
 cast-list : tie.Need-cast-list
 cast-list c = search needs
 
-cast-list-2 : tie.Need-cast-list-2
-cast-list-2 c = search needs
-
 list-requires : tie.Need-list-requires
 list-requires c κs =
-    let e = c .before in
+    let p = c .before .before in
+    let e = p .before .before in
     let v = e .before .before in
-    let t = v .before .before in
-    let f = fair _ _ _ _ _ _ (sym (verdict v) ∙ e .enum-told3 .given .1) in
-    simp (lat-back t, lon-back t)
-    (record { accepted = is-accepted _ _ (told (t .before)); asked = record { low = f .low; high = f .high }; placed = record { known = f .fits .known; placed = f .fits .placed } })
+    let q = passed _ _ (whole (v .before .before)) (sym (found v) ∙ e .enum-told3 .given .1) in
+    rw (p .place-asked .ensures, v .before .on-one .ensures)
+    (record { accepted = q .accepted; asked = record { low = q .asked .low; high = q .asked .high }; placed = q .placed })
 
 same-length : tie.Need-same-length
 same-length c = search needs
@@ -83,10 +79,11 @@ returns-3 : tie.Need-returns-3
 unfolding checkedFor
 returns-3 c =
     let l = c .before .before in
-    let e = l .before .before in
+    let p = l .before .before .before in
+    let t = p .before in
+    let e = t .before in
     let v = e .before .before in
-    let t = v .before .before in
-    table-passed _ _ (told (t .before)) (asked-passed _ (sym (verdict v) ∙ e .enum-told3 .given .1) (simp (lat-back t, lon-back t) at (l .list .ensures)))
+    passed-on _ _ _ (whole (v .before .before)) (sym (found v) ∙ e .enum-told3 .given .1) (rw (p .place-asked .ensures, t .terms-asked .ensures, v .before .on-one .ensures) at (l .list .ensures))
 
 pub check-spec : {M : Type 1} → statement M
 check-spec =
@@ -97,12 +94,14 @@ check-spec =
     enum-told-2
     left-requires
     returns
-    asked-fault-requires
+    on-one-requires
+    fault-of-requires
     enum-known-v
     returns-2
     enum-told-3
+    terms-asked-requires
+    place-asked-requires
     cast-list
-    cast-list-2
     list-requires
     same-length
     returns-3)

@@ -15,7 +15,7 @@ use Rattle.stations.specs.Version.{limit}
 use Rattle.stations.proofs.Versions.{limit-small}
 use Rattle.survey.specs.Ways.{studied}
 use Rattle.desk.proofs.Answers.{does-not-fit, written}
-use Rattle.checks.specs.Check.{rowOf, shortRows}
+use Rattle.checks.specs.Check.{rowOf, rowsFor}
 use Rattle.checks.proofs.Listing.{noted-few, position, rows-noted, length-rows}
 use Rattle.checks.proofs.list.Statement.{statement}
 use Rattle.checks.proofs.list.Tie as tie
@@ -23,11 +23,11 @@ use Rattle.checks.proofs.list.Tie as tie
 few : (c : tie.After-note-short) → c .note-short .result ≤ 4000
 few c = le-trans (noted-few (c .note-short .ensures)) limit-small
 
-need : (c : tie.After-note-short) → let s = c .before .before .before .before in length (flat (shortRows tableA (sited (s .args .place) (s .args .channel)) (studied (stations (now (s .args .table)))))) ≡ 3 * c .note-short .result
+need : (c : tie.After-note-short) → let s = c .before .before .before .before in length (rowsFor (sited (s .args .place) (s .args .channel)) (studied (s .args .terms) (stations (now (s .args .table))))) ≡ 3 * c .note-short .result
 need c =
     let s = c .before .before .before .before in
     let w = c .note-short .ensures in
-    ap (λ (rs : List Row). length (flat rs)) (sym (rows-noted _ (s .pre .accepted) (sited (s .args .place) (s .args .channel)) w))
+    ap (λ (rs : List Row). length (flat rs)) (sym (rows-noted _ (s .pre .accepted) (s .args .terms) (sited (s .args .place) (s .args .channel)) w))
     ∙ length-rows (λ j. rowOf tableA (sited (s .args .place) (s .args .channel)) (stationAt (now (s .args .table)) j)) _ (c .note-short .result) (omega (arith, w .long, noted-few w))
 
 note-short-requires : tie.Need-note-short-requires
@@ -53,14 +53,14 @@ put-noted-requires c κs =
     let m = c .before .before .before in
     let s = m .before .before .before .before in
     let w = m .note-short .ensures in
-    record { accepted = s .pre .accepted; placed = s .pre .placed; long = w .long; few = noted-few w; each-one = position _ (s .pre .accepted) _ w }
+    record { accepted = s .pre .accepted; placed = s .pre .placed; long = w .long; few = noted-few w; each-one = position _ (s .pre .accepted) _ _ w }
 
 cast-count : tie.Need-cast-count
 cast-count c =
     let r = c .before .before in
     let m = r .before .before .before .before in
     let s = m .before .before .before .before in
-    let w = rw (rows-noted _ (s .pre .accepted) (sited (s .args .place) (s .args .channel)) (m .note-short .ensures)) at (r .put-noted .ensures) in
+    let w = rw (rows-noted _ (s .pre .accepted) (s .args .terms) (sited (s .args .place) (s .args .channel)) (m .note-short .ensures)) at (r .put-noted .ensures) in
     omega (arith, w .next, need m, few m)
 
 same-length : tie.Need-same-length
@@ -72,7 +72,7 @@ returns-2 c =
     let e = r .before .before .before in
     let m = e .before in
     let s = m .before .before .before .before in
-    let w = rw (rows-noted _ (s .pre .accepted) (sited (s .args .place) (s .args .channel)) (m .note-short .ensures)) at (r .put-noted .ensures) in
+    let w = rw (rows-noted _ (s .pre .accepted) (s .args .terms) (sited (s .args .place) (s .args .channel)) (m .note-short .ensures)) at (r .put-noted .ensures) in
     written _ _ _ _ w (omega (arith, need m, e .if1 .left))
 
 pub list-spec : {M : Type 1} → statement M

@@ -7,7 +7,7 @@ use denote.Ref.{now}
 use borrow.Rule.Slice.PartMut.{mid-len}
 use Rattle.ground.proofs.Writes.{Walking, walk-start, walk-turn, walk-end, walk-length, wrote-as}
 use Rattle.part73.specs.Channels.{highest, channelCount}
-use Rattle.survey.specs.Marks.{markOf}
+use Rattle.marking.specs.Marks.{markOf}
 use Rattle.planning.specs.Flags.{start}
 use Rattle.listing.specs.Listing.{idAt, markRows, channelRows, allRows}
 use Rattle.listing.proofs.Marking.{all-of}

@@ -1,39 +1,38 @@
 -- `nearby::note_short` meets its contract: one walk, noting as it goes. Assumes nothing.
-use mathlib.Core.Path.{_≡_, sym, _∙_}
-use mathlib.Core.Bool.{true}
+use mathlib.Core.Path.{_≡_}
+use mathlib.Core.Bool.{Bool, true}
 use mathlib.Core.List.{List}
 use Prim.Native.Nat.{ℕ, _-_, _≤_, _<_}
 use native.Mathlib.Omega.{arith}
 use denote.Ref.{now}
 use Rattle.part73.specs.TableA.{tableA}
 use Rattle.spacing.specs.Pair.{Assignment, sited}
-use Rattle.stations.specs.Image.{stationAt, count, Accepted}
+use Rattle.stations.specs.Image.{count, Accepted}
 use Rattle.stations.specs.Version.{limit}
+use Rattle.stations.specs.declared.Station.{Station}
 use Rattle.stations.proofs.Table.{whole}
-use Rattle.survey.specs.Ways.{everyRecord, near}
-use Rattle.survey.specs.Marks.{blocks}
+use Rattle.survey.specs.Ways.{looked}
+use Rattle.survey.specs.Walking.{blocks}
 use Rattle.survey.proofs.Records.{few, header-room}
-use Rattle.survey.proofs.Shorts.{blocks-every}
 use Rattle.nearby.specs.Positions.{shortPositions, Search, NextShort}
 use Rattle.nearby.proofs.Noting.{Noting, note-start, note-skip, note-turn, note-end}
 use Rattle.nearby.proofs.note_short.Statement.{statement}
 use Rattle.nearby.proofs.note_short.Tie as tie
 
--- what is noted of the records before i, and that p is short to the one at i
-pub record Finding (s : List ℕ) (p : Assignment) (hits : List ℕ) (k i : ℕ) : Type 0 where
-  pub noted : Noting (blocks tableA everyRecord s p) (shortPositions tableA everyRecord s p) (count s) hits k i
-  pub found : i < count s → near tableA p (stationAt s i) ≡ true
+-- what is noted of the records before i, and that the one at i is looked at and short
+pub record Finding (look : Station → Bool) (s : List ℕ) (p : Assignment) (hits : List ℕ) (k i : ℕ) : Type 0 where
+  pub noted : Noting (blocks tableA look s p) (shortPositions tableA look s p) (count s) hits k i
+  pub found : i < count s → blocks tableA look s p i ≡ true
 
 abbrev Inv-loop : tie.InvT-loop
-Inv-loop table channel place hits₀ n limits free k₀ i₀ hits k i = Finding table (sited place channel) hits k i
+Inv-loop table terms channel place hits₀ n limits free k₀ i₀ hits k i = Finding (looked terms) table (sited place channel) hits k i
 
 abbrev μ-loop : tie.MeasureT-loop
-μ-loop table channel place hits₀ n limits free k₀ i₀ hits k i = n - i
+μ-loop table terms channel place hits₀ n limits free k₀ i₀ hits k i = n - i
 
 -- the next one
-on : {s : List ℕ} {p : Assignment} {hits : List ℕ} {k i to : ℕ} → NextShort s p i to → Noting (blocks tableA everyRecord s p) (shortPositions tableA everyRecord s p) (count s) hits k i → Finding s p hits k to
-on {s} {p} {to} w v =
-    record { noted = note-skip to (w .passed .on) (w .passed .upto) (λ j l u. sym (blocks-every s p j) ∙ w .passed .each-one j l u) v; found = w .short }
+on : {look : Station → Bool} {s : List ℕ} {p : Assignment} {hits : List ℕ} {k i to : ℕ} → NextShort look s p i to → Noting (blocks tableA look s p) (shortPositions tableA look s p) (count s) hits k i → Finding look s p hits k to
+on {to} w v = record { noted = note-skip to (w .passed .on) (w .passed .upto) (w .passed .each-one) v; found = w .short }
 
 few-stations : (s : List ℕ) → Accepted s → count s ≤ limit
 few-stations s e = whole s (count s) e .few
@@ -101,7 +100,7 @@ loop-again : tie.Need-loop-again Inv-loop μ-loop
 loop-again c =
     let i = c .before .before .before in
     let w = i .before .loop .inv in
-    on (c .next-short2 .ensures) (note-turn (few-stations _ (accepted i)) (within i) (sym (blocks-every _ _ _) ∙ w .found (within i)) (w .noted))
+    on (c .next-short2 .ensures) (note-turn (few-stations _ (accepted i)) (within i) (w .found (within i)) (w .noted))
 
 returns : tie.Need-returns Inv-loop μ-loop
 returns c =

@@ -12,8 +12,9 @@ use Rattle.part73.specs.Channels.{lowest, channelCount}
 use Rattle.part73.specs.TableA.{tableA}
 use Rattle.spacing.specs.declared.Place.{Place}
 use Rattle.stations.specs.Image.{count}
-use Rattle.survey.specs.Ways.{everyRecord}
-use Rattle.survey.specs.Marks.{seen, markOf}
+use Rattle.survey.specs.Ways.{looked}
+use Rattle.marking.specs.Marks.{seen, markOf}
+use Rattle.survey.specs.declared.Terms.{Terms}
 use Rattle.planning.specs.Scene.{scene, sceneOf}
 use Rattle.planning.specs.Flags.{Mark, mayMove, Kept, Meets, start, Right, Planned}
 use Rattle.planning.specs.Planning.{Single}
@@ -24,29 +25,29 @@ use Rattle.planning.proofs.plan.Statement.{statement}
 use Rattle.planning.proofs.plan.Tie as tie
 
 -- where the rows of the new channels before c are done
-record Turns (s : List ℕ) (p : Place) (first last : ℕ) (moves₀ moves : List Bool) (kept : List ℕ) (blocker : Blocker) (c : ℕ) : Type 0 where
+record Turns (s : List ℕ) (t : Terms) (p : Place) (first last : ℕ) (moves₀ moves : List Bool) (kept : List ℕ) (blocker : Blocker) (c : ℕ) : Type 0 where
   low : first ≤ c
   high : c ≤ last + 1
   long : length moves ≡ length moves₀
-  held : Kept tableA everyRecord s (blocker .mark) kept
+  held : Kept tableA (looked t) s (blocker .mark) kept
   met : Meets tableA s p (blocker .mark) blocker
-  planned : Planned (sceneOf s p) first c moves
+  planned : Planned (sceneOf s t p) first c moves
 
 -- what is known of a station, under its own mark
 itself : {s : List ℕ} {p : Place} {v : ℕ} {b : Blocker} → Meets tableA s p v b → Meets tableA s p (b .mark) b
 itself {s} {p} {v} {b} m = subst (λ x. Meets tableA s p x b) (sym (m .mark)) m
 
 -- one more
-next : {s : List ℕ} {p : Place} {first last : ℕ} {moves₀ moves row moves′ : List Bool} {kept kept′ : List ℕ} {blocker blocker′ : Blocker} {c v : ℕ} → Turns s p first last moves₀ moves kept blocker c → c ≤ last → Turned first c row moves moves′
-    → Kept tableA everyRecord s (blocker′ .mark) kept′ → Meets tableA s p (blocker′ .mark) blocker′ → v ≡ seen (sceneOf s p .new c) (count s) → Right (sceneOf s p) c v row → Turns s p first last moves₀ moves′ kept′ blocker′ (c + 1)
+next : {s : List ℕ} {t : Terms} {p : Place} {first last : ℕ} {moves₀ moves row moves′ : List Bool} {kept kept′ : List ℕ} {blocker blocker′ : Blocker} {c v : ℕ} → Turns s t p first last moves₀ moves kept blocker c → c ≤ last → Turned first c row moves moves′
+    → Kept tableA (looked t) s (blocker′ .mark) kept′ → Meets tableA s p (blocker′ .mark) blocker′ → v ≡ seen (sceneOf s t p .new c) (count s) → Right (sceneOf s t p) c v row → Turns s t p first last moves₀ moves′ kept′ blocker′ (c + 1)
 unfolding scene
 next i h u k b e r = record { low = omega (arith, i .low); high = omega arith; long = u .long ∙ i .long; held = k; met = b; planned = plan-turn (i .low) (i .planned) u e r }
 
 abbrev Inv-loop : tie.InvT-loop
-Inv-loop table place limits marks moves₀ first last kept₀ blocker₀ c₀ moves kept blocker c = Turns table place first last moves₀ moves kept blocker c
+Inv-loop table terms place limits marks moves₀ first last kept₀ blocker₀ c₀ moves kept blocker c = Turns table terms place first last moves₀ moves kept blocker c
 
 abbrev μ-loop : tie.MeasureT-loop
-μ-loop table place limits marks moves₀ first last kept₀ blocker₀ c₀ moves kept blocker c = last + 1 - c
+μ-loop table terms place limits marks moves₀ first last kept₀ blocker₀ c₀ moves kept blocker c = last + 1 - c
 
 loop-holds : tie.Need-loop-holds Inv-loop μ-loop
 loop-holds c =
@@ -83,11 +84,11 @@ module _ (c : tie.After-mark Inv-loop μ-loop) where
   abbrev mark : ℕ
   mark = markOf (now (s .args .marks)) (at .loop .c)
 
-  is : mark ≡ seen (sceneOf table (s .args .place) .new (at .loop .c)) (count table)
+  is : mark ≡ seen (sceneOf table (s .args .terms) (s .args .place) .new (at .loop .c)) (count table)
   is = s .pre .marked .at (at .loop .c) (at .loop .inv .low) (c .before .loop-test .taken)
 
   known : Mark (count table) mark
-  known = marks-one table (s .args .place) (at .loop .c) is
+  known = marks-one table (s .args .terms) (s .args .place) (at .loop .c) is
 
   -- the row of c stands within the flags
   within : start (s .args .channels .first) (at .loop .c) + channelCount ≤ length (at .loop .moves)
@@ -160,10 +161,10 @@ loop-again c =
     let met = w .3 .ensures in
     let low : lowest ≤ at n .loop .c = omega (arith, s n .pre .asked .low, i .low) in
     rw (w .9, w .10, w .11)
-    (next i on (turned _ _ _ (i .low) refl (within n) e) (rw (met .mark) (w .2 .ensures)) (itself met) (is n) (right-kept _ _ (s n .pre .walk .accepted) _ (is n) low (moves t) (w .2 .ensures) met (w .6 .ensures))))
+    (next i on (turned _ _ _ (i .low) refl (within n) e) (rw (met .mark) (w .2 .ensures)) (itself met) (is n) (right-kept _ _ _ _ (is n) (s n .pre .walk .accepted) low (moves t) (w .2 .ensures) met (w .6 .ensures))))
     (λ w.
     rw (w .1, w .2, w .3)
-    (next i on (unturned _) (i .held) (i .met) (is n) (right-down _ _ (s n .pre .walk .accepted) _ (is n) (sym (c .before .may-move .ensures) ∙ w .0 .left) (i .planned .down .at _ (omega arith)))))
+    (next i on (unturned _) (i .held) (i .met) (is n) (right-down _ _ _ _ (is n) (sym (c .before .may-move .ensures) ∙ w .0 .left) (i .planned .down .at _ (omega arith)))))
     (c .if1 .came)
 
 same-length : tie.Need-same-length Inv-loop μ-loop

@@ -7,14 +7,14 @@ use borrow.Author.Needs.{needs}
 use Rattle.part73.specs.TableA.{tableA}
 use Rattle.spacing.specs.Reaching.{InRange}
 use Rattle.stations.specs.Image.{count}
-use Rattle.survey.specs.Ways.{placeOf, everyRecord}
+use Rattle.survey.specs.Ways.{placeOf, looked}
 use Rattle.survey.proofs.Records.{known-at, room-at}
 use Rattle.planning.specs.Flags.{stationOf, Kept}
 use Rattle.planning.proofs.survey_from.Statement.{statement}
 use Rattle.planning.proofs.survey_from.Tie as tie
 
 returns : tie.Need-returns
-returns c = let s = c .before .before in subst (λ (v : ℕ). Kept tableA everyRecord (now (s .args .table)) v (now (s .args .kept))) (sym (c .if1 .taken)) (s .pre .held)
+returns c = let s = c .before .before in subst (λ (v : ℕ). Kept tableA (looked (s .args .terms)) (now (s .args .table)) v (now (s .args .kept))) (sym (c .if1 .taken)) (s .pre .held)
 
 inside : (s : tie.Start) → s .args .mark - 1 < count (now (s .args .table))
 inside s = omega (arith, s .pre .single)

@@ -28,7 +28,7 @@ tell-check-requires c κs = (search needs, (search needs, within _ (search needs
 
 returns : tie.Need-returns
 unfolding limit
-returns c = tells-as (check-printed (c .before .before .before .before .before .before .before .before .before .before .args .input .now) (search needs) (c .before .before .before .before .before .before .before .asked-check .ensures)) (c .before .tell-check .ensures)
+returns c = let s = c .before .before .before .before .before .before .before .before .before .before .args in tells-as (check-printed (s .terms) (s .input .now) (search needs) (c .before .before .before .before .before .before .before .asked-check .ensures)) (c .before .tell-check .ensures)
 
 pub check-spec : {M : Type 1} → statement M
 check-spec =

@@ -28,7 +28,7 @@ returns c =
     let s = c .before .before .before .before .before .before .before .before .before .before .args in
     let a = c .before .before .before .before .before .before .asked-arrange .ensures in
     let w = c .before .before .put-answer .ensures in
-    (wrote-as (channel-printed (s .channel) (s .input .now) (search needs) a) (w .0), (omega (arith, w .1), w .1 .1 ∙ channel-denied (s .channel) (s .input .now) (search needs) a))
+    (wrote-as (channel-printed (s .channel) (s .terms) (s .input .now) (search needs) a) (w .0), (omega (arith, w .1), w .1 .1 ∙ channel-denied (s .channel) (s .terms) (s .input .now) (search needs) a))
 
 pub put-channel-spec : {M : Type 1} → statement M
 put-channel-spec =

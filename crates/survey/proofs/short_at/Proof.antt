@@ -1,10 +1,15 @@
 -- `survey::short_at` meets its contract. Assumes nothing.
-use mathlib.Core.Path.{_≡_, ap, _∙_}
+use mathlib.Core.Path.{_≡_, sym, ap, _∙_}
+use mathlib.Core.Bool.{and-true}
 use denote.Ref.{now}
 use borrow.Author.Needs.{needs}
+use Rattle.part73.specs.TableA.{tableA}
+use Rattle.spacing.specs.Pair.{sited}
 use Rattle.stations.specs.Image.{stationAt}
-use Rattle.survey.specs.Ways.{placeOf}
+use Rattle.survey.specs.Ways.{placeOf, looked, near}
+use Rattle.survey.specs.Walking.{blocks}
 use Rattle.survey.proofs.Records.{known-at, room-at}
+use Rattle.survey.proofs.Shorts.{blocks-spaced}
 use Rattle.survey.proofs.short_at.Statement.{statement}
 use Rattle.survey.proofs.short_at.Tie as tie
 
@@ -25,12 +30,28 @@ is-short-requires c κs =
     let s = c .before .before .before .before in
     (s .pre .0 .held, (s .pre .0 .placed, rw (theirs c) (known-at _ (s .pre .0 .accepted) (s .args .i) (s .pre .1) .placed)))
 
-returns : tie.Need-returns
-returns c =
+looks-requires : tie.Need-looks-requires
+looks-requires c κs = search needs
+
+-- whether it is short to the record
+near-it : (c : tie.After-is-short) → let s = c .before .before .before .before .before in c .is-short .result ≡ near tableA (sited (s .args .place) (s .args .channel)) (stationAt (now (s .args .table)) (s .args .i))
+near-it c =
     let t = c .before in
     simp (theirs t, t .before .before .station-at .ensures) at (c .is-short .ensures)
+
+returns : tie.Need-returns
+unfolding blocks
+returns c =
+    let i = c .before .before in
+    let r = i .before .before .before in
+    let s = r .before .before in
+    rw (sym (near-it i) ∙ c .before .if1 .taken, and-true (looked (s .args .terms) (stationAt (now (s .args .table)) (s .args .i))))
+    (c .looks .ensures ∙ ap (looked (s .args .terms)) (r .station-at .ensures))
+
+returns-2 : tie.Need-returns-2
+returns-2 c = sym (blocks-spaced _ _ _ _ (sym (near-it (c .before)) ∙ c .if1 .left))
 
 pub short-at-spec : {M : Type 1} → statement M
 short-at-spec =
     tie.close
-    (tie.spec station-at-requires cast-c place-of-requires is-short-requires returns)
+    (tie.spec station-at-requires cast-c place-of-requires is-short-requires looks-requires returns returns-2)

@@ -6,19 +6,20 @@ use denote.Ref.{now}
 use Rattle.part73.specs.TableA.{tableA}
 use Rattle.spacing.specs.Pair.{sited}
 use Rattle.stations.specs.Image.{count}
-use Rattle.survey.specs.Ways.{everyRecord}
-use Rattle.survey.specs.Marks.{blocks, Marked}
+use Rattle.survey.specs.Ways.{looked}
+use Rattle.survey.specs.Walking.{blocks}
+use Rattle.marking.specs.Marks.{Marked}
 use Rattle.survey.proofs.Records.{few, header-room}
-use Rattle.survey.proofs.Marks.{marked-start, marked-turn}
+use Rattle.marking.proofs.Marks.{marked-start, marked-turn}
 use Rattle.survey.proofs.Boxes.{marked-on}
 use Rattle.survey.proofs.survey.Statement.{statement}
 use Rattle.survey.proofs.survey.Tie as tie
 
 abbrev Inv-loop : tie.InvT-loop
-Inv-loop table place limits channels marks₀ n stop around from₀ marks from = (from ≤ count table) × Marked (λ m j. blocks tableA everyRecord table (sited place m) j) (channels .first) (channels .last) from marks
+Inv-loop table terms place limits channels marks₀ n stop around from₀ marks from = (from ≤ count table) × Marked (λ m j. blocks tableA (looked terms) table (sited place m) j) (channels .first) (channels .last) from marks
 
 abbrev μ-loop : tie.MeasureT-loop
-μ-loop table place limits channels marks₀ n stop around from₀ marks from = n - from
+μ-loop table terms place limits channels marks₀ n stop around from₀ marks from = n - from
 
 wipe-requires : tie.Need-wipe-requires Inv-loop μ-loop
 wipe-requires c κs = c .before .before .pre .long
@@ -45,11 +46,12 @@ next-close-requires c κs =
     (record { accepted = b .before .before .before .before .before .before .pre .walk .accepted; within = l .loop .inv .0; fair = b .box-around .ensures .fair }, omega arith, omega arith)
 
 -- the marks up to the next record that is close
-on : (c : tie.After-next-close Inv-loop μ-loop) → let l = c .before .before in let s = l .before .before .before .before .before .before .before in Marked (λ m j. blocks tableA everyRecord (now (s .args .table)) (sited (s .args .place) m) j) (s .args .channels .first) (s .args .channels .last) (c .next-close .result) (l .loop .marks)
+on : (c : tie.After-next-close Inv-loop μ-loop) → let l = c .before .before in let s = l .before .before .before .before .before .before .before in Marked (λ m j. blocks tableA (looked (s .args .terms)) (now (s .args .table)) (sited (s .args .place) m) j) (s .args .channels .first) (s .args .channels .last) (c .next-close .result) (l .loop .marks)
 on c =
     let l = c .before .before in
     let b = l .before in
-    marked-on _ (b .before .before .before .before .before .before .pre .walk .accepted) (b .box-around .ensures) (c .next-close .ensures) (l .loop .inv .1)
+    let s = b .before .before .before .before .before .before in
+    marked-on _ (s .pre .walk .accepted) (b .box-around .ensures) (c .next-close .ensures) (looked (s .args .terms)) (l .loop .inv .1)
 
 returns : tie.Need-returns Inv-loop μ-loop
 returns c =

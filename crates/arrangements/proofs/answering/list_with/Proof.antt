@@ -1,23 +1,31 @@
 -- `arrangements::answering::list_with` meets its contract. Assumes nothing.
+use mathlib.Core.Path.{_≡_, subst}
+use mathlib.Core.List.{List}
+use Prim.Native.Nat.{ℕ}
 use native.Mathlib.Omega.{arith}
 use denote.Ref.{now}
 use borrow.Author.Needs.{needs}
 use Rattle.stations.specs.Image.{count}
-use Rattle.survey.specs.Marks.{Marked}
+use Rattle.marking.specs.Marks.{Marked}
+use Rattle.desk.specs.Answers.{grant, Answered}
+use Rattle.desk.specs.declared.Answer.{Answer}
 use Rattle.planning.specs.Scene.{sceneOf}
 use Rattle.planning.proofs.Going.{marks-one}
 use Rattle.arrangements.proofs.Unique.{as-new, rows-of}
-use Rattle.arrangements.proofs.Asked.{answered-as}
 use Rattle.arrangements.proofs.answering.list_with.Statement.{statement}
 use Rattle.arrangements.proofs.answering.list_with.Tie as tie
+
+-- the same rows, in another form
+answered-as : {vs ws entry exit : List ℕ} {r : Answer} → vs ≡ ws → Answered (grant vs) entry exit r → Answered (grant ws) entry exit r
+answered-as {entry} {exit} {r} e a = subst (λ (xs : List ℕ). Answered (grant xs) entry exit r) e a
 
 -- the marks are those of the new station
 module _ (c : tie.After-survey) where
   abbrev s : tie.Start
   s = c .before .before .before .before .before .before .before
 
-  marked : Marked (sceneOf (now (s .args .table)) (s .args .place) .new) (s .args .channels .first) (s .args .channels .last) (count (now (s .args .table))) (c .survey .last .1 .1 .1 .1 .0)
-  marked = as-new _ _ (s .args .channels) (c .survey .ensures)
+  marked : Marked (sceneOf (now (s .args .table)) (s .args .terms) (s .args .place) .new) (s .args .channels .first) (s .args .channels .last) (count (now (s .args .table))) (c .survey .last .1 .1 .1 .1 .1 .0)
+  marked = as-new _ _ _ (s .args .channels) (c .survey .ensures)
 
 limits-of-requires : tie.Need-limits-of-requires
 limits-of-requires c κs = search needs
@@ -45,7 +53,7 @@ list-if-room-requires c κs =
     record {
       accepted = q .question .accepted;
       asked = q .question .asked;
-      known = λ m lo hi. marks-one (now (s v .args .table)) (s v .args .place) m (marked v .at m lo hi);
+      known = λ m lo hi. marks-one (now (s v .args .table)) (s v .args .terms) (s v .args .place) m (marked v .at m lo hi);
       room = omega (arith, p .plan .kept, q .room);
     }
 
@@ -60,7 +68,7 @@ returns c =
     let l = c .before .before in
     let p = l .before .before .before .before .before .before in
     let v = p .before .before .before .before in
-    answered-as (rows-of _ _ (s v .args .channels) (s v .pre .question .accepted) (marked v) (p .plan .ensures)) (l .list-if-room .ensures)
+    answered-as (rows-of _ _ _ (s v .args .channels) (s v .pre .question .accepted) (marked v) (p .plan .ensures)) (l .list-if-room .ensures)
 
 pub list-with-spec : {M : Type 1} → statement M
 list-with-spec =

@@ -7,10 +7,10 @@ use Rattle.cases.proofs.tables.made_table.Statement.{statement}
 use Rattle.cases.proofs.tables.made_table.Tie as tie
 
 abbrev Inv-loop : tie.InvT-loop
-Inv-loop state₀ n style table₀ from₀ id₀ i₀ state table from id i = (i ≤ n) × (length table ≡ length table₀)
+Inv-loop state₀ asked start n style table₀ from₀ id₀ i₀ state table from id i = (i ≤ n) × (length table ≡ length table₀)
 
 abbrev μ-loop : tie.MeasureT-loop
-μ-loop state₀ n style table₀ from₀ id₀ i₀ state table from id i = n - i
+μ-loop state₀ asked start n style table₀ from₀ id₀ i₀ state table from id i = n - i
 
 cast-put-header : tie.Need-cast-put-header Inv-loop μ-loop
 cast-put-header c = search needs

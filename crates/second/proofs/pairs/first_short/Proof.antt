@@ -16,8 +16,8 @@ loop-holds c = search needs
 station-at-requires : tie.Need-station-at-requires Inv-loop μ-loop
 station-at-requires c κs = search needs
 
-short-requires : tie.Need-short-requires Inv-loop μ-loop
-short-requires c κs = search needs
+in-the-way-requires : tie.Need-in-the-way-requires Inv-loop μ-loop
+in-the-way-requires c κs = search needs
 
 returns : tie.Need-returns Inv-loop μ-loop
 returns c = search needs
@@ -42,7 +42,7 @@ first-short-spec =
     μ-loop
     loop-holds
     station-at-requires
-    short-requires
+    in-the-way-requires
     returns
     add-i
     loop-less

@@ -1,0 +1,77 @@
+// The paper's questions and its station.
+use super::image::Record;
+use super::image::put_header;
+use super::image::put_record;
+use super::question::Question;
+use super::words::Site;
+
+// A question of a class in zone II at a longitude on the equator; the second site is the crossing with the meridian.
+pub fn paper_question(kind: u32, first: u32, last: u32, class: u32, lon: u32) -> Question {
+    Question {
+        kind,
+        id: 0,
+        channel: first,
+        last,
+        class,
+        zone: 3,
+        lat: 0,
+        lon,
+        lat2: 0,
+        lon2: 0,
+    }
+}
+
+// A question of class A in zone I, from a channel to another, on a latitude of the meridian, with an id left aside.
+pub fn aside_question(kind: u32, first: u32, last: u32, lat: u32, id: u32) -> Question {
+    Question {
+        kind,
+        id,
+        channel: first,
+        last,
+        class: 0,
+        zone: 1,
+        lat,
+        lon: 0,
+        lat2: 0,
+        lon2: 0,
+    }
+}
+
+// Writes the table of one station, id 7, at the crossing of equator and meridian.
+pub fn put_seven(table: &mut [u8], channel: u32, class: u32, flags: u32) {
+    let record = Record {
+        id: 7,
+        channel,
+        class,
+        flags,
+        site: Site { lat: 0, lon: 0 },
+    };
+    put_header(table, 1);
+    put_record(table, 0, record);
+}
+
+// The channels whose differences from 240 are 0, 1, 2, 3, 53 and 54, in a row, twice.
+pub fn paper_channel(k: u32) -> u32 {
+    match k % 6 {
+        0 => 240,
+        1 => 241,
+        2 => 242,
+        3 => 237,
+        4 => 293,
+        _ => 294,
+    }
+}
+
+// The paper's separations for these differences: A to A, and then C to C.
+pub fn paper_separation(k: u32) -> u32 {
+    match k {
+        0 => 115,
+        1 => 72,
+        2 | 3 => 31,
+        4 | 5 => 10,
+        6 => 290,
+        7 => 241,
+        8 | 9 => 105,
+        _ => 48,
+    }
+}

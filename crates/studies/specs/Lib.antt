@@ -1,0 +1,2 @@
+pub mod Studies
+pub mod Passed
