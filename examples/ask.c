@@ -1,5 +1,6 @@
-/* ask: asks Check for one channel and Arrange for all of 221 to 300 through libfms.a, and prints what the programs
-   fm_check and fm_arrange print, or fm_study with a station left aside.
+/* ask: asks Check and Reason for one channel and Arrange for all of 221 to 300 through libfms.a, and prints what the
+   programs fm_check, fm_reason and fm_arrange print, or fm_study for the first and the last with a station left aside.
+   After a reason stands the blocking station's own record in the table.
 
        ask TABLE CHANNEL CLASS ZONE LATITUDE LONGITUDE [ASIDE]
 
@@ -13,8 +14,8 @@
 #include <stdio.h>
 #include <stdlib.h>
 
-#if FMS_INTERFACE != 2
-#error "ask.c is written for interface 2 of fms.h"
+#if FMS_INTERFACE != 3
+#error "ask.c is written for interface 3 of fms.h"
 #endif
 
 /* One byte more than the longest table, so that a longer file is seen to be too long. */
@@ -36,6 +37,18 @@ static void print_rows(const uint32_t *rows, size_t count)
         printf("%lu %lu %lu\n", (unsigned long)rows[i], (unsigned long)rows[i + 1], (unsigned long)rows[i + 2]);
 }
 
+/* Prints the four numbers of a reason, and the sixteen bytes of its station. */
+static void print_reason(const uint32_t *reason, const uint8_t *station)
+{
+    size_t i;
+    printf("%lu %lu %lu %lu\n", (unsigned long)reason[0], (unsigned long)reason[1], (unsigned long)reason[2],
+           (unsigned long)reason[3]);
+    printf("record");
+    for (i = 0; i < 16; i++)
+        printf(" %02x", (unsigned)station[i]);
+    printf("\n");
+}
+
 /* Reads a whole number from low to high; ends on any other word. */
 static long long number(const char *word, long long low, long long high)
 {
@@ -52,7 +65,7 @@ static long long number(const char *word, long long low, long long high)
 
 int main(int words, char **word)
 {
-    uint32_t channel, station_class, zone, aside, none = 0, *rows;
+    uint32_t channel, station_class, zone, aside, none = 0, reason[4], *rows;
     int32_t lat, lon;
     size_t length, room;
     uint64_t answer;
@@ -83,6 +96,15 @@ int main(int words, char **word)
         return refused(answer);
     printf("short %lu\n", (unsigned long)fms_value(answer) / 3);
     print_rows(short_rows, fms_value(answer));
+
+    /* Reason: the place in the table is 0 where the channel is clear. */
+    answer = fms_reason(table, length, channel, station_class, zone, lat, lon, aside, reason);
+    if (fms_number(answer) != FMS_GRANTED)
+        return refused(answer);
+    if (fms_value(answer) == 0)
+        printf("clear\n");
+    else
+        print_reason(reason, table + fms_value(answer));
 
     /* Arrange, first with no room: refusal 22 says exactly how much is needed. */
     answer = fms_arrange(table, length, 221, 300, station_class, zone, lat, lon, aside, &none, 0);

@@ -11,7 +11,8 @@ cd "$room" && ln -s "$root/fm" fm && ln -s "$root/examples" examples || exit 3
 
 # Has fm build what is missing, so that the day below is answers alone.
 ./fm show examples/region.fms >/dev/null && ./fm check examples/region.fms 221 A II 0 0 >/dev/null &&
-    ./fm arrange examples/region.fms A II 0 0 >/dev/null && ./fm distance 0 0 0 0 >/dev/null || exit 3
+    ./fm arrange examples/region.fms A II 0 0 >/dev/null && ./fm why examples/region.fms 221 A II 0 0 >/dev/null &&
+    ./fm distance 0 0 0 0 >/dev/null || exit 3
 
 while IFS= read -r line; do
     printf '$ %s\n' "$line"
@@ -21,6 +22,7 @@ done <<'DAY'
 ./fm check --help | sed -n 1,4p
 ./fm check examples/region.fms 270 C3 II 41-45-12N 046-20-30W
 ./fm arrange examples/region.fms C3 II 41-45-12N 046-20-30W
+./fm why examples/region.fms 257 C3 II 41-45-12N 046-20-30W
 ./fm arrange --raw examples/region.fms C3 II 41-45-12N 046-20-30W | sed -n 1,3p
 ./fm add examples/region.fms early.fms 3001 270 C3 II 41-45-12N 046-20-30W || echo "status $?"
 ./fm move examples/region.fms moved.fms 1161 276

@@ -2,21 +2,25 @@
 
    Every question gets an answer in one 64-bit number. Its high half is the refusal's number, 0 where the question was
    granted. Its low half is then the count written, in bytes for an image and in 32-bit numbers for a list, or the count
-   of stations (fms_read), or the distance in km (fms_distance); with a refusal it is that refusal's extra number.
-   fms_number and fms_value take an answer apart.
+   of stations (fms_read), or the distance in km (fms_distance), or the byte of the table at which the blocking station
+   begins, 0 for clear (fms_reason); with a refusal it is that refusal's extra number. fms_number and fms_value take an
+   answer apart.
 
    What callers owe, since C cannot be asked to prove it:
    - a pointer is not null, is aligned for what it points to, and is good for its length: that many elements may be read,
-     of an image or rows also written. This holds for a length of 0 too, where nothing is read or written;
+     of an image or rows also written. This holds for a length of 0 too, where nothing is read or written. A reason has
+     no length of its own: it is good for four numbers, whatever the answer will be;
    - a length counts elements: bytes of a table or an image, 32-bit numbers of rows;
-   - the table and the buffer for the answer do not overlap, and nobody else writes either during the call.
+   - the table and the buffer for the answer (image, rows or reason) do not overlap, and nobody else writes either during
+     the call.
    Nothing is owed of the numbers: every table, channel, class, zone, id and coordinate gets its decision.
 
    What callers get:
-   - a refusal writes nothing; a granted answer stands from the buffer's start, and the places after it stay as they were;
+   - a refusal writes nothing, nor does fms_reason for clear; any other granted answer stands from the buffer's start, and
+     the places after it stay as they were;
    - no question keeps anything between calls, so several may run at once, each with a buffer of its own.
 
-   Coordinates are seconds of arc, north and east positive. Record positions count from 0. */
+   Coordinates are seconds of arc, north and east positive. Record positions and the bytes of a table count from 0. */
 
 #ifndef FMS_H
 #define FMS_H
@@ -24,8 +28,8 @@
 #include <stddef.h>
 #include <stdint.h>
 
-/* The number of this interface; a change of what a function takes raises it. */
-#define FMS_INTERFACE 2
+/* The number of this interface; a new function, or a change of what one takes, raises it. */
+#define FMS_INTERFACE 3
 
 #ifdef __cplusplus
 extern "C" {
@@ -48,6 +52,14 @@ enum fms_zone {
     FMS_ZONE_I = 1,
     FMS_ZONE_I_A = 2,
     FMS_ZONE_II = 3
+};
+
+/* The columns of Table A, each for the channel differences that are named. */
+enum fms_column {
+    FMS_COLUMN_CO_CHANNEL = 0,       /* co-channel: 0 */
+    FMS_COLUMN_200_KHZ = 1,          /* 200 kHz: 1 */
+    FMS_COLUMN_400_600_KHZ = 2,      /* 400/600 kHz: 2, 3 */
+    FMS_COLUMN_10_6_10_8_MHZ = 3     /* 10.6/10.8 MHz: 53, 54 */
 };
 
 /* The refusals, each with its extra number (0 where none is named). */
@@ -75,8 +87,8 @@ enum fms_refusal {
     FMS_SHORT = 20,                  /* add, move: short; the first short position */
     FMS_TABLE_FULL = 21,             /* add: the table already holds 2,000 */
     FMS_ROOM = 22,                   /* the answer does not fit; the exact room needed, in elements */
-    FMS_ID_ABSENT = 23,              /* withdraw, move: no station has the id; check, arrange: the nonzero id left aside is
-                                        that of no station */
+    FMS_ID_ABSENT = 23,              /* withdraw, move: no station has the id; check, reason, arrange: the nonzero id left
+                                        aside is that of no station */
     FMS_TOO_FAR = 24,                /* distance: over 475 km */
     FMS_NOT_MOVABLE = 25             /* move: fixed, or at or below channel 220; the position */
 };
@@ -84,7 +96,7 @@ enum fms_refusal {
 /* The refusal's number in an answer; 0 where the question was granted. */
 static inline uint32_t fms_number(uint64_t answer) { return (uint32_t)(answer >> 32); }
 
-/* The count or distance in a granted answer; a refusal's extra number. */
+/* The count, distance or byte of the table in a granted answer; a refusal's extra number. */
 static inline uint32_t fms_value(uint64_t answer) { return (uint32_t)(answer & 0xffffffffu); }
 
 /* The longest table: 2,000 stations. Room for the image after any change. */
@@ -113,12 +125,20 @@ uint64_t fms_withdraw(const uint8_t *table, size_t table_len, uint32_t id, uint8
 uint64_t fms_move(const uint8_t *table, size_t table_len, uint32_t id, uint32_t channel, uint8_t *image,
                   size_t image_len);
 
-/* The next two take the id of a station to leave aside, 0 for none, as for a station that changes its own site. The table
-   is judged whole; the answer is then the one that the table without that station would get. */
+/* The next three take the id of a station to leave aside, 0 for none, as for a station that changes its own site. The
+   table is judged whole; the answer is then the one that the table without that station would get, but for the byte that
+   fms_reason gives, which counts in the table as it is lent. */
 
 /* The stations that are short to a proposal, in table order: id, D in km, R in km of each. 0 numbers: acceptable. */
 uint64_t fms_check(const uint8_t *table, size_t table_len, uint32_t channel, uint32_t station_class, uint32_t zone,
                    int32_t lat, int32_t lon, uint32_t aside, uint32_t *rows, size_t rows_len);
+
+/* Why a proposal is blocked: of the stations that are short to it the one with the largest R - D, the lowest id among
+   equals. Clear, where none is short: value 0, and `reason` stays as it was. Blocked: the value is the byte of the table
+   at which the station's own sixteen begin, never 0, and `reason` gets its id, D in km, R in km, and the column of Table A
+   that R stands in (enum fms_column). The refusals are those of fms_check without FMS_ROOM. */
+uint64_t fms_reason(const uint8_t *table, size_t table_len, uint32_t channel, uint32_t station_class, uint32_t zone,
+                    int32_t lat, int32_t lon, uint32_t aside, uint32_t reason[4]);
 
 /* Every clean arrangement for a new station on first to last: new channel, id moved, its new channel of each; 0 and 0
    where nothing moves. Ascending by new channel, then id, then moved channel. */

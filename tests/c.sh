@@ -36,6 +36,8 @@ asks() { # PROGRAM
     done <<'ASKS'
 examples/region.fms 270 3 3 150312 -166830
 examples/region.fms 271 0 3 149400 -165600
+examples/region.fms 256 7 3 150312 -166830
+examples/region.fms 256 7 3 150312 -166830 1019
 examples/region.fms 270 3 3 150312 -166830 1161
 examples/region.fms 270 3 3 150312 -166830 1160
 examples/region.fms 220 3 3 150312 -166830

@@ -97,7 +97,7 @@ mkdir folder
 before=$(cksum ./*[!g].fms)
 
 # Builds what is missing, so that what follows is answers alone.
-for words in 'check one.fms 221 A II 0 0' 'arrange one.fms A II 0 0' 'show one.fms' 'distance 0 0 0 0'; do
+for words in 'check one.fms 221 A II 0 0' 'why one.fms 221 A II 0 0' 'arrange one.fms A II 0 0' 'show one.fms' 'distance 0 0 0 0'; do
     # shellcheck disable=SC2086
     "$fm" $words >/dev/null 2>said </dev/null || {
         cat said
@@ -128,6 +128,9 @@ fm: wrong number of words for check (5, not 6): ./fm check TABLE CHANNEL CLASS Z
 SAYS
 try 2 check one.fms 250 A II 0 0 0 <<'SAYS'
 fm: wrong number of words for check (7, not 6): ./fm check TABLE CHANNEL CLASS ZONE LAT LON
+SAYS
+try 2 why one.fms 250 A II 0 <<'SAYS'
+fm: wrong number of words for why (5, not 6): ./fm why TABLE CHANNEL CLASS ZONE LAT LON
 SAYS
 try 2 arrange <<'SAYS'
 fm: wrong number of words for arrange (0, not 5): ./fm arrange TABLE CLASS ZONE LAT LON
@@ -175,8 +178,28 @@ By the method of 47 CFR 73.208, in whole km, as in the lines of check.
 
 Refuses: a site out of range (17), sites more than 475 km apart (24).
 SAYS
+try 0 why --help <<'SAYS'
+fm why: why a channel is blocked, or that it is clear
+
+  ./fm why TABLE CHANNEL CLASS ZONE LAT LON
+  Example: ./fm why examples/region.fms 257 C3 II 41-45-12N 046-20-30W
+
+The station that is short by most (of equals the lowest id), and what 47 CFR 73.207 asks between the two.
+
+  TABLE    a file of stations; it is only read
+  ID       the station's number, from 1
+  CHANNEL  221 to 300
+  CLASS    A, B1, B, C3, C2, C1, C0 or C
+  ZONE     I, I-A or II (I and I-A permit A, B1, B; II permits A, C3, C2, C1, C0, C)
+  LAT LON  degrees, minutes and seconds, as 40-44-54N 073-59-09W, or seconds of arc, as 146694 -266349
+  --aside  anywhere among the words, with an ID: as if that station were not there (check, why and arrange only)
+  --raw    anywhere among the words: the proved program's own lines instead of sentences (not for show)
+
+Refuses: a damaged table (1 to 12), a channel outside 221 to 300 (13), a class that the zone does not
+  permit (16), a site out of range (17), an id left aside that no station has (23).
+SAYS
 # Each command of the page: its line there, its own help in each way of asking, and an example of as many words.
-for command in check arrange add withdraw move distance show; do
+for command in check why arrange add withdraw move distance show; do
     of=$("$fm" "$command" --help 2>/dev/null)
     hold "fm $command --help: status" [ $? -eq 0 ]
     usage=$(printf '%s\n' "$of" | sed -n "s|^  \./fm $command |$command |p")
@@ -253,6 +276,60 @@ short 0
 SAYS
 done
 
+# ---- why: blocked in each column, and clear
+try 0 why one.fms 250 A II 0 3702 <<'SAYS'
+Channel 250 is blocked for class A in zone II at 00-00-00N 001-01-42E.
+The largest shortfall is to station 7, channel 250, class A, at 00-00-00N 000-00-00E.
+It stands 114 km away, and 47 CFR 73.207 asks for 115 km between two stations of class A
+on the same channel (co-channel): short by 1 km.
+SAYS
+try 0 why three.fms 299 c0 ii -269999 647999 <<'SAYS'
+Channel 299 is blocked for class C0 in zone II at 74-59-59S 179-59-59E.
+The largest shortfall is to station 4294967295, channel 300, class C, at 75-00-00S 180-00-00E.
+It stands 0 km away, and 47 CFR 73.207 asks for 220 km between class C0 and class C
+on channels one apart (200 kHz): short by 220 km.
+SAYS
+for channel in 247 248 252 253; do
+    try 0 why link.fms "$channel" B1 I-A 0 986 <<SAYS
+Channel $channel is blocked for class B1 in zone I-A at 00-00-00N 000-16-26E.
+The largest shortfall is to station 7, channel 250, class A, at 00-00-00N 000-00-00E.
+It stands 30 km away, and 47 CFR 73.207 asks for 48 km between class B1 and class A
+on channels two or three apart (400/600 kHz): short by 18 km.
+SAYS
+done
+for channel in 273 274; do
+    try 0 why three.fms "$channel" B I 40-44-54N 073-59-09W <<SAYS
+Channel $channel is blocked for class B in zone I at 40-44-54N 073-59-09W.
+The largest shortfall is to station 9, channel 220, class C2, at 40-44-54N 073-59-09W.
+It stands 0 km away, and 47 CFR 73.207 asks for 20 km between class B and class C2
+on channels 53 or 54 apart (10.6/10.8 MHz): short by 20 km.
+SAYS
+done
+try 0 why one.fms 0250 A I-A -0 001-01-43W <<'SAYS'
+Channel 250 is clear for class A in zone I-A at 00-00-00N 001-01-43W:
+no station is nearer than 47 CFR 73.207 asks.
+SAYS
+for channel in 246 254 300; do
+    try 0 why -odd.fms "$channel" A II 0 0 --raw <<'SAYS'
+clear
+SAYS
+done
+# The larger shortfall, first of the lower id and then of the higher; of two thousand equal ones the lowest id.
+"$fm" add one.fms pair.fms 9 253 A II 0 987 >/dev/null
+for words in '7 31 72 1:251 A II 0 987' '9 3 72 1:252 A II 0 900'; do
+    # shellcheck disable=SC2086
+    try 0 why --raw pair.fms ${words#*:} <<SAYS
+${words%:*}
+SAYS
+done
+rm -f pair.fms
+try 0 --raw why full.fms 254 A II 0 0 <<'SAYS'
+1 0 10 3
+SAYS
+try 0 why full.fms 255 A II 0 --aside 1 0 --raw <<'SAYS'
+2 0 10 3
+SAYS
+
 # ---- arrange
 try 0 arrange one.fms A II 0 0 <<'SAYS'
 Class A in zone II at 00-00-00N 000-00-00E: of 80 channels
@@ -325,6 +402,20 @@ Nothing is short: channel 299 is acceptable for class C in zone II at 74-59-59S 
 Station 4294967295 was left aside, as if it were not in the table.
 Its old record must be withdrawn before the new one can be added.
 SAYS
+try 0 why three.fms 300 C II -270000 648000 --aside 9 <<'SAYS'
+Channel 300 is blocked for class C in zone II at 75-00-00S 180-00-00E.
+The largest shortfall is to station 4294967295, channel 300, class C, at 75-00-00S 180-00-00E.
+It stands 0 km away, and 47 CFR 73.207 asks for 290 km between two stations of class C
+on the same channel (co-channel): short by 290 km.
+Station 9 was left aside, as if it were not in the table.
+Its old record must be withdrawn before the new one can be added.
+SAYS
+try 0 why --aside 4294967295 three.fms 299 C II -269999 647999 <<'SAYS'
+Channel 299 is clear for class C in zone II at 74-59-59S 179-59-59E:
+no station is nearer than 47 CFR 73.207 asks.
+Station 4294967295 was left aside, as if it were not in the table.
+Its old record must be withdrawn before the new one can be added.
+SAYS
 try 0 arrange at260.fms A I 0 0 --aside 7 <<'SAYS'
 Class A in zone I at 00-00-00N 000-00-00E: of 80 channels
 80 are free, 0 open by one move, 0 are shut.
@@ -350,13 +441,14 @@ try 0 check --aside 7 at260.fms 260 A I 0 0 --raw <<'SAYS'
 short 0
 SAYS
 hold "arrange --aside --raw: 80 rows of one station left aside" [ "$("$fm" --raw arrange --aside 7 at260.fms A I 0 0 | sort -u | grep -c '^[0-9][0-9]* 0 0$')" -eq 80 ]
-for words in 'check one.fms 250 A II 0 3702' 'check one.fms 250 A II 0 3703' 'arrange at260.fms A I 0 0' 'check three.fms 299 C II 0 0 --raw' 'arrange --raw three.fms A I 0 0'; do
+for words in 'check one.fms 250 A II 0 3702' 'check one.fms 250 A II 0 3703' 'arrange at260.fms A I 0 0' 'check three.fms 299 C II 0 0 --raw' 'arrange --raw three.fms A I 0 0' \
+    'why one.fms 250 A II 0 3702' 'why one.fms 250 A II 0 3703'; do
     # shellcheck disable=SC2086
     hold "fm $words --aside 0: as without it" [ "$("$fm" $words --aside 0 2>&1)" = "$("$fm" $words 2>&1)" ]
     # shellcheck disable=SC2086
     hold "fm --aside 00 $words: as without it" [ "$("$fm" --aside 00 $words 2>&1)" = "$("$fm" $words 2>&1)" ]
 done
-for words in 'check one.fms 250 A II 0 0' 'arrange one.fms A II 0 0'; do
+for words in 'check one.fms 250 A II 0 0' 'why one.fms 250 A II 0 0' 'arrange one.fms A II 0 0'; do
     for id in 6 8 4294967295; do
         # shellcheck disable=SC2086
         try 1 $words --aside "$id" <<SAYS
@@ -386,17 +478,19 @@ fm: --aside is given more than once: one station is left aside, or none
 SAYS
     done
 done
-try 1 check one.fms 250 A II 75-00-01N 0 --aside 8 <<'SAYS'
+for command in check why; do
+    try 1 "$command" one.fms 250 A II 75-00-01N 0 --aside 8 <<'SAYS'
 fm: refused with number 17: the site is out of range. Latitudes go from 75-00-00S to 75-00-00N, longitudes from 180-00-00W to 180-00-00E.
 SAYS
-try 1 check one.fms 220 A II 0 0 --aside 7 <<'SAYS'
+    try 1 "$command" one.fms 220 A II 0 0 --aside 7 <<'SAYS'
 fm: refused with number 13: channel 220 cannot be asked for. Ask for one of 221 to 300.
 SAYS
+done
 for words in 'add one.fms new.fms 9 250 A II 0 3703' 'withdraw one.fms new.fms 7' 'move one.fms new.fms 7 260' 'distance 0 0 0 0' 'show one.fms' help 'help check'; do
     for last in '--aside 7' '--aside 0' --aside '--aside 7 --aside 7'; do
         # shellcheck disable=SC2086
         try 2 $words $last <<SAYS
-fm: ${words%% *} has no --aside: only check and arrange leave a station aside
+fm: ${words%% *} has no --aside: only check, why and arrange leave a station aside
 SAYS
     done
 done
@@ -407,11 +501,11 @@ SAYS
 try 2 check one.fms 250 A II 0 --aside 7 <<'SAYS'
 fm: wrong number of words for check (5, not 6): ./fm check TABLE CHANNEL CLASS ZONE LAT LON
 SAYS
-for words in 'check --aside' 'check --aside seven' 'check --aside 7 --aside 7' 'arrange --aside 7' 'show --aside 7'; do
+for words in 'check --aside' 'check --aside seven' 'check --aside 7 --aside 7' 'why --aside 7' 'arrange --aside 7' 'show --aside 7'; do
     # shellcheck disable=SC2086
     hold "fm $words --help: --help wins" [ "$("$fm" $words --help)" = "$("$fm" help "${words%% *}")" ]
 done
-for command in check arrange; do
+for command in check why arrange; do
     hold "fm $command --help: --aside" [ "$("$fm" "$command" --help | grep -c -e '^  --aside  ' -e '(23)\.$')" -eq 2 ]
 done
 hold "fm withdraw --help: no --aside" [ "$("$fm" withdraw --help | grep -c -e --aside)" -eq 0 ]
@@ -546,9 +640,11 @@ SAYS
 
 # ---- numbers and names that are no such thing
 for word in 65536 -1 25x '' ' 250' 0x111 2.5 99999999999999999999; do
-    try 2 check one.fms "$word" A II 0 0 <<SAYS
+    for command in check why; do
+        try 2 "$command" one.fms "$word" A II 0 0 <<SAYS
 fm: '$word' is no channel: a channel is a whole number, 221 to 300
 SAYS
+    done
 done
 for word in 4294967296 -7 seven '' 7.0 +7 10000000000 99999999999999999999999; do
     try 2 withdraw one.fms new.fms "$word" <<SAYS
@@ -586,6 +682,9 @@ SAYS
     try 1 check "$2" 220 A II 0 0 <<SAYS
 fm: refused with number $1: $3. $anew
 SAYS
+    try 1 why "$2" 220 A II 0 0 <<SAYS
+fm: refused with number $1: $3. $anew
+SAYS
     try 1 arrange "$2" C I 0 0 <<SAYS
 fm: refused with number $1: $3. $anew
 SAYS
@@ -615,16 +714,21 @@ damage 12 bad12.fms 'record 0 of bad12.fms, counted from 0, has longitude 648001
 
 # ---- refusals of the question
 for channel in 220 301 0 65535; do
-    try 1 check one.fms "$channel" A II 0 0 <<SAYS
+    for command in check why; do
+        try 1 "$command" one.fms "$channel" A II 0 0 <<SAYS
 fm: refused with number 13: channel $channel cannot be asked for. Ask for one of 221 to 300.
 SAYS
+    done
 done
 try 1 move one.fms new.fms 8 220 <<'SAYS'
 fm: refused with number 13: channel 220 cannot be asked for. Ask for one of 221 to 300.
 SAYS
-try 1 arrange one.fms C3 i-a 0 0 <<'SAYS'
+for words in 'arrange one.fms' 'why one.fms 250'; do
+    # shellcheck disable=SC2086
+    try 1 $words C3 i-a 0 0 <<'SAYS'
 fm: refused with number 16: zone I-A does not permit class C3. Zones I and I-A permit A, B1, B; zone II permits A, C3, C2, C1, C0, C.
 SAYS
+done
 for site in '75-00-01N 0' '0 180-00-01W' '2147483647 0' '-2147483648 0' '0 2147483647' '0 -2147483648' '999-59-59S 0'; do
     # shellcheck disable=SC2086
     try 1 check one.fms 250 A II $site <<'SAYS'
@@ -659,9 +763,11 @@ SAYS
 try 1 move three.fms new.fms 9 250 <<'SAYS'
 fm: refused with number 25: station 9 (channel 220, class C2), record 1 of three.fms counted from 0, is not movable: it is fixed, or on a channel of 220 or below.
 SAYS
-try 1 check --raw one.fms 220 A II 0 0 <<'SAYS'
+for command in check why; do
+    try 1 "$command" --raw one.fms 220 A II 0 0 <<'SAYS'
 refused 13 0
 SAYS
+done
 try 1 add three.fms new.fms 9 221 A II 0 0 --raw <<'SAYS'
 refused 19 1
 SAYS
@@ -679,7 +785,7 @@ hold "a cut write: status 3" [ $? -eq 3 ]
 hold "a cut write leaves nothing" only folder
 if [ -c /dev/full ] && [ -w /dev/full ]; then
     for words in 'check one.fms 250 A II 0 0' 'arrange one.fms A II 0 0' 'check --raw one.fms 250 A II 0 0' 'check one.fms 250 A II 0 0 --aside 7' \
-        'arrange one.fms A II 0 0 --aside 7' 'show one.fms' 'distance 0 0 0 1' help 'help check'; do
+        'arrange one.fms A II 0 0 --aside 7' 'why one.fms 250 A II 0 0' 'show one.fms' 'distance 0 0 0 1' help 'help check'; do
         # shellcheck disable=SC2086
         "$fm" $words >/dev/full 2>said </dev/null
         hold "fm $words: status 3 on a full output" [ $? -eq 3 ]
@@ -858,22 +964,31 @@ fi
 try 0 check one.fms 250 A II 0 0 --raw <<'SAYS'
 short 0
 SAYS
-for line in 'echo hello' 'echo short 1' 'echo short 0; echo 7 1 2' 'echo short 1; echo 8 1 2' ':' 'echo refused 26 0' 'echo refused 13' 'echo refused x 0'; do
-    answers fm_check "$line"
-    try 3 check one.fms 250 A II 0 0 <<'SAYS'
-fm: fm_check gave something that is no answer
+# Runs fm with WORDS over a program that answers with each of LINES in turn: fm must say that it is no answer.
+no_answer() { # NAME WORDS LINES
+    name=$1 words=$2
+    shift 2
+    for line in "$@"; do
+        answers "$name" "$line"
+        # shellcheck disable=SC2086
+        try 3 $words <<SAYS
+fm: $name gave something that is no answer
 SAYS
-done
+    done
+}
+no_answer fm_check 'check one.fms 250 A II 0 0' 'echo hello' 'echo short 1' 'echo short 0; echo 7 1 2' 'echo short 1; echo 8 1 2' ':' \
+    'echo refused 26 0' 'echo refused 13' 'echo refused x 0'
 answers fm_check 'exit 7'
 try 3 check one.fms 250 A II 0 0 <<'SAYS'
 fm: fm_check ended with status 7 and gave no answer
 SAYS
-for line in 'echo hello' 'echo 220 0 0' 'echo 301 0 0' 'echo 250 8 251'; do
-    answers fm_arrange "$line"
-    try 3 arrange one.fms A II 0 0 <<'SAYS'
-fm: fm_arrange gave something that is no answer
+no_answer fm_reason 'why one.fms 250 A II 0 0' 'echo hello' 'echo short 0' 'echo 7 1 2' 'echo 8 1 2 0' 'echo 7 1 2 4' 'echo 7 1 2 0 0' \
+    'echo 7 1 2 0; echo 7 1 2 0' 'echo clear; echo clear' 'echo clear; echo 7 1 2 0' ':' 'echo refused 26 0'
+answers fm_reason 'exit 7'
+try 3 why one.fms 250 A II 0 0 --raw <<'SAYS'
+fm: fm_reason ended with status 7 and gave no answer
 SAYS
-done
+no_answer fm_arrange 'arrange one.fms A II 0 0' 'echo hello' 'echo 220 0 0' 'echo 301 0 0' 'echo 250 8 251'
 answers fm_arrange ':'
 hold "arrange: all shut" [ "$(PATH=$path "$fm" arrange one.fms A II 0 0 | sed -n 2p)" = '0 are free, 0 open by one move, 80 are shut.' ]
 hold "arrange: all shut, raw" [ -z "$(PATH=$path "$fm" arrange --raw one.fms A II 0 0)" ]
@@ -895,22 +1010,9 @@ answers fm_check 'echo refused 24 0'
 try 1 check one.fms 250 A II 0 0 <<'SAYS'
 fm: refused with number 24: the sites are more than 475 km apart, where the distance method of 73.208 does not hold.
 SAYS
-for line in 'echo hello' 'echo 476' 'echo -1' 'echo 1; echo 2' ':' 'echo refused 1 0' 'echo refused 20 0' 'echo refused 24'; do
-    answers fm_study "$line"
-    try 3 distance 0 0 0 0 <<'SAYS'
-fm: fm_study gave something that is no answer
-SAYS
-done
-for line in 'echo hello' 'echo 475' 'echo short 1' ':' 'echo refused 26 0'; do
-    answers fm_study "$line"
-    try 3 check one.fms 250 A II 0 0 --aside 7 <<'SAYS'
-fm: fm_study gave something that is no answer
-SAYS
-done
-answers fm_study 'echo 301 0 0'
-try 3 arrange one.fms A II 0 0 --aside 7 <<'SAYS'
-fm: fm_study gave something that is no answer
-SAYS
+no_answer fm_study 'distance 0 0 0 0' 'echo hello' 'echo 476' 'echo -1' 'echo 1; echo 2' ':' 'echo refused 1 0' 'echo refused 20 0' 'echo refused 24'
+no_answer fm_study 'check one.fms 250 A II 0 0 --aside 7' 'echo hello' 'echo 475' 'echo short 1' ':' 'echo refused 26 0'
+no_answer fm_study 'arrange one.fms A II 0 0 --aside 7' 'echo 301 0 0'
 answers fm_study 'exit 7'
 try 3 arrange one.fms A II 0 0 --aside 7 <<'SAYS'
 fm: fm_study ended with status 7 and gave no answer
@@ -919,13 +1021,8 @@ answers fm_change 'printf FMS'
 try 3 withdraw one.fms folder/new.fms 7 <<'SAYS'
 fm: the new table could not be written whole, and folder/new.fms is not there: is the disk full?
 SAYS
-answers fm_change 'echo hello'
-try 3 withdraw one.fms folder/new.fms 7 <<'SAYS'
-fm: fm_change gave something that is no answer
-SAYS
-try 3 show one.fms <<'SAYS'
-fm: fm_change gave something that is no answer
-SAYS
+no_answer fm_change 'withdraw one.fms folder/new.fms 7' 'echo hello'
+no_answer fm_change 'show one.fms' 'echo hello'
 answers fm_change 'exit 9'
 try 3 withdraw one.fms folder/new.fms 7 <<'SAYS'
 fm: fm_change ended with status 9, and folder/new.fms is not written
@@ -950,17 +1047,27 @@ hold "a temporary name that is taken: status 3" [ $? -eq 3 ]
 hold "a temporary name that is taken keeps its file" [ "$(cat folder/.fm-*.new)" = mine ]
 rm -f folder/.fm-*.new
 
-# The bytes of each class, zone and number.
-script other/target/bin/fm_check "seen=\$(od -An -v -tu1 -N 12 | tr -s ' \n' ' ')
+# A program that keeps at most so many bytes of its input in `seen`, and then has given lines.
+keeps() { # NAME COUNT LINES
+    script "other/target/bin/$1" "seen=\$(od -An -v -tu1 -N $2 | tr -s ' \n' ' ')
 [ -n \"\$seen\" ] || { echo refused 1 0; exit; }
 printf '%s' \"\$seen\" >$room/seen
-echo short 0"
+$3"
+}
+# Runs fm with WORDS: the program must have kept BYTES.
+gives() { # BYTES WORDS
+    want=$1
+    shift
+    PATH=$path "$fm" "$@" >/dev/null </dev/null
+    hold "fm $*: the bytes are $(cat seen)" [ "$(cat seen)" = " $want " ]
+}
+# The bytes of each class, zone and number.
 sees() { # BYTES WORDS
     want=$1
     shift
-    PATH=$path "$fm" check one.fms "$@" >/dev/null </dev/null
-    hold "fm check one.fms $*: the bytes are $(cat seen)" [ "$(cat seen)" = " $want " ]
+    gives "$want" check one.fms "$@"
 }
+keeps fm_check 12 'echo short 0'
 code=0
 for class in A B1 B C3 C2 C1 C0 C; do
     sees "0 250 $code 3 0 0 0 0 0 0 0 0" 250 "$class" II 0 0
@@ -972,19 +1079,17 @@ sees '255 255 0 3 127 255 255 255 128 0 0 0' 65535 A II 2147483647 -2147483648
 sees '0 0 0 3 0 2 61 6 255 251 239 147' 0 A II 40-44-54N 073-59-09W
 sees '1 44 0 3 255 255 255 255 0 0 0 1' 300 A II 00-00-01S 000-00-01E
 # With a station left aside fm_study gets the letter, the id, and then the bytes of the other program; with 0 that program is asked.
-script other/target/bin/fm_study "seen=\$(od -An -v -tu1 -N 17 | tr -s ' \n' ' ')
-[ -n \"\$seen\" ] || { echo refused 1 0; exit; }
-printf '%s' \"\$seen\" >$room/seen
-[ \"\$(printf '%s' \"\$seen\" | sed 's/^ \([0-9]*\).*/\1/')\" = 97 ] || echo short 0"
+keeps fm_study 17 "[ \"\$(printf '%s' \"\$seen\" | sed 's/^ \([0-9]*\).*/\1/')\" = 97 ] || echo short 0"
 sees '99 255 255 255 254 0 250 7 3 127 255 255 255 128 0 0 0' 250 C II 2147483647 -2147483648 --aside 4294967294
 sees '99 0 0 0 7 1 44 0 1 255 255 255 255 0 0 0 1' --aside 7 300 A I 00-00-01S 000-00-01E
 sees '0 250 0 2 0 0 0 0 0 0 0 0' 250 A I-A 0 0 --aside 0
-PATH=$path "$fm" arrange one.fms B I-A 1 -2 --aside 65536 >/dev/null </dev/null
-hold "fm arrange --aside: the bytes are $(cat seen)" [ "$(cat seen)" = ' 97 0 1 0 0 2 2 0 0 0 1 255 255 255 254 70 77 ' ]
-script other/target/bin/fm_study "seen=\$(od -An -v -tu1 | tr -s ' \n' ' ')
-[ -n \"\$seen\" ] || { echo refused 1 0; exit; }
-printf '%s' \"\$seen\" >$room/seen
-echo 475"
+gives '97 0 1 0 0 2 2 0 0 0 1 255 255 255 254 70 77' arrange one.fms B I-A 1 -2 --aside 65536
+# fm_reason gets the bytes of fm_check, the id left aside or 0, and then the table.
+keeps fm_reason 18 'echo clear'
+gives '0 250 7 3 127 255 255 255 128 0 0 0 0 0 0 0 70 77' why one.fms 250 C II 2147483647 -2147483648
+gives '1 44 1 1 255 255 255 255 0 0 0 1 255 255 255 254 70 77' why one.fms 300 B1 I -1 1 --aside 4294967294
+gives '0 0 0 2 0 2 61 6 255 251 239 147 0 0 0 0 70 77' why one.fms 0 A I-A 40-44-54N 073-59-09W --aside 0
+keeps fm_study 99 'echo 475'
 try 0 distance 40-44-54N 073-59-09W -1 2147483647 <<'SAYS'
 40-44-54N 073-59-09W and 00-00-01S 596523-14-07E are 475 km apart by 47 CFR 73.208.
 SAYS

@@ -1,6 +1,6 @@
-//! The proved library: its seven functions for C, asked with slices.
+//! The proved library: its eight functions for C, asked with slices.
 
-use crate::question::{Answer, Question};
+use crate::question::{Answer, Lent, Question};
 
 extern "C" {
     fn fms_read(table: *const u8, table_len: usize) -> u64;
@@ -57,14 +57,26 @@ extern "C" {
         rows: *mut u32,
         rows_len: usize,
     ) -> u64;
+    fn fms_reason(
+        table: *const u8,
+        table_len: usize,
+        channel: u32,
+        station_class: u32,
+        zone: u32,
+        lat: i32,
+        lon: i32,
+        aside: u32,
+        reason: *mut u32,
+    ) -> u64;
 }
 
-/// Any question; an image goes to `image`, a list to `rows`.
-pub fn ask(question: &Question, table: &[u8], image: &mut [u8], rows: &mut [u32]) -> Answer {
+/// Any question.
+pub fn ask(question: &Question, table: &[u8], lent: Lent) -> Answer {
     let (table, table_len) = (table.as_ptr(), table.len());
-    let (image, image_len) = (image.as_mut_ptr(), image.len());
-    let (rows, rows_len) = (rows.as_mut_ptr(), rows.len());
-    // SAFETY: each pointer goes with the length of its own slice, and no two slices overlap.
+    let (image, image_len) = (lent.image.as_mut_ptr(), lent.image.len());
+    let (rows, rows_len) = (lent.rows.as_mut_ptr(), lent.rows.len());
+    let reason = lent.reason.as_mut_ptr();
+    // SAFETY: each pointer goes with the length of its own slice, that of a reason is good for four, and no two buffers overlap.
     let word = unsafe {
         match *question {
             Question::Read => fms_read(table, table_len),
@@ -127,6 +139,21 @@ pub fn ask(question: &Question, table: &[u8], image: &mut [u8], rows: &mut [u32]
                 aside,
                 rows,
                 rows_len,
+            ),
+            Question::Reason {
+                channel,
+                proposal: p,
+                aside,
+            } => fms_reason(
+                table,
+                table_len,
+                channel,
+                p.station_class,
+                p.zone,
+                p.lat,
+                p.lon,
+                aside,
+                reason,
             ),
         }
     };

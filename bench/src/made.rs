@@ -1,6 +1,6 @@
 //! Made-up tables, sites and questions, the same in every run.
 
-use crate::naive::{image_of, Station};
+use crate::naive::{degrees, image_of, km, Station};
 use crate::question::Proposal;
 
 /// Numbers that look like chance: xorshift from a seed.
@@ -132,16 +132,25 @@ pub enum Manner {
     Low,
     /// On few channels at few sites, at the distances of Table A.
     Limits,
+    /// So far inside of these that they are short to a class A proposal on `LEVEL` by the same in whole km, and some by one more.
+    Level,
 }
 
+/// The channel of a proposal to which level stations are short.
+pub const LEVEL: u32 = 260;
+
+/// The channel differences that have a column, each with its own.
+pub const DIFFERENCES: [(usize, u32); 6] = [(0, 0), (1, 1), (2, 2), (2, 3), (3, 53), (3, 54)];
+
 /// Every manner.
-pub const MANNERS: [Manner; 6] = [
+pub const MANNERS: [Manner; 7] = [
     Manner::Region,
     Manner::Cluster,
     Manner::Lone,
     Manner::Ends,
     Manner::Low,
     Manner::Limits,
+    Manner::Level,
 ];
 
 /// Stations, and a place from which to ask about them.
@@ -220,24 +229,53 @@ pub fn scene_of(chance: &mut Chance, manner: Manner, count: usize) -> Scene {
             let lat = if chance.once_in(3) { 0 } else { lat };
             let area = Area::around(lat, lon, 0);
             let mut stations = spread(chance, count, area, 245, 255);
-            let (p, q) = crate::naive::degrees(i128::from(lat.unsigned_abs()) * 2);
             for station in &mut stations {
                 let column = chance.from(0, 3) as usize;
                 let class = chance.from(0, 7) as u32;
-                let km = i64::from(crate::naive::km(class, station.class, column));
-                let (site, degree, end) = if chance.once_in(3) {
-                    (&mut station.lat, p, 270_000)
+                let km = km(class, station.class, column);
+                let more = chance.from(-1, 2);
+                set_off(chance, station, 10_000 * i64::from(km) - 5_000, more);
+            }
+            Scene { stations, area }
+        }
+        Manner::Level => {
+            let area = Area::around(lat, lon, 0);
+            let mut stations = spread(chance, count, area, 201, 300);
+            let shortfall = chance.one_of(&[1, 5, 9, 20, 31, 60]);
+            for station in &mut stations {
+                let (column, difference) = chance.one_of(&DIFFERENCES);
+                station.channel = if difference <= 3 && chance.once_in(2) {
+                    LEVEL + difference
                 } else {
-                    (&mut station.lon, q, 648_000)
+                    LEVEL - difference
                 };
-                let seconds =
-                    (10_000 * km - 5_000) * 3_600_000 / degree as i64 + chance.from(-1, 2);
-                let seconds = if chance.once_in(2) { seconds } else { -seconds } as i32;
-                *site = (*site + seconds).clamp(-end, end);
+                let shortfall = shortfall + u32::from(chance.once_in(3));
+                let km = km(0, station.class, column).saturating_sub(shortfall);
+                let decimetres = 10_000 * i64::from(km) + chance.from(-4_500, 4_500);
+                set_off(chance, station, decimetres, 0);
             }
             Scene { stations, area }
         }
     }
+}
+
+/// Sets a station so many decimetres, and some seconds more, off its site: north or south or, more often, east or west.
+fn set_off(chance: &mut Chance, station: &mut Station, decimetres: i64, more: i64) {
+    let (p, q) = degrees(i128::from(station.lat.unsigned_abs()) * 2);
+    let (site, degree, end) = if chance.once_in(3) {
+        (&mut station.lat, p, 270_000)
+    } else {
+        (&mut station.lon, q, 648_000)
+    };
+    let seconds = decimetres * 3_600_000 / degree as i64 + more;
+    let seconds = if chance.once_in(2) { seconds } else { -seconds } as i32;
+    *site = (*site + seconds).clamp(-end, end);
+}
+
+/// The column of a channel difference that has one.
+pub fn column_of(difference: u32) -> usize {
+    let mut columns = DIFFERENCES.iter().filter(|(_, one)| *one == difference);
+    columns.next().expect("a difference that has a column").0
 }
 
 /// The refusals that a damaged table can get.

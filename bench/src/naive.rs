@@ -1,6 +1,7 @@
-//! The seven questions as the paper says them, in the plainest words and wide numbers.
+//! The eight questions as the paper says them, in the plainest words and wide numbers.
 
-use crate::question::{Answer, Proposal, Question};
+use crate::question::{Answer, Lent, Proposal, Question};
+use std::cmp::Reverse;
 
 /// One record of a table.
 #[derive(Clone, Copy, Debug, PartialEq, Eq)]
@@ -144,27 +145,31 @@ fn kilometres(a: &Station, b: &Station) -> u32 {
     rounded(squared(a.lat, a.lon, b.lat, b.lon))
 }
 
-/// The requirement R of two stations, where there is one.
-pub fn separation(a: &Station, b: &Station) -> Option<u32> {
+/// The column of Table A by which two stations have a requirement, where they have one.
+fn column(a: &Station, b: &Station) -> Option<usize> {
     if a.channel <= 220 && b.channel <= 220 {
         return None;
     }
-    let column = match a.channel.abs_diff(b.channel) {
-        0 => 0,
-        1 => 1,
-        2 | 3 => 2,
-        53 | 54 => 3,
-        _ => return None,
-    };
-    Some(km(a.class, b.class, column))
+    match a.channel.abs_diff(b.channel) {
+        0 => Some(0),
+        1 => Some(1),
+        2 | 3 => Some(2),
+        53 | 54 => Some(3),
+        _ => None,
+    }
+}
+
+/// Why one station is blocked by another, where D is below R: id, D, R and column.
+fn blocked_by(one: &Station, other: &Station) -> Option<[u32; 4]> {
+    let column = column(one, other)?;
+    let d = kilometres(one, other);
+    let r = km(one.class, other.class, column);
+    (d < r).then_some([other.id, d, r, column as u32])
 }
 
 /// Two stations are short: D is below R.
 pub fn short(a: &Station, b: &Station) -> bool {
-    match separation(a, b) {
-        Some(r) => kilometres(a, b) < r,
-        None => false,
-    }
+    blocked_by(a, b).is_some()
 }
 
 fn site_in_range(lat: i32, lon: i32) -> bool {
@@ -352,8 +357,16 @@ fn moved(table: &[u8], id: u32, channel: u32) -> Result<Vec<u8>, Refusal> {
     Ok(image_of(&stations))
 }
 
-/// The stations without the one that is left aside; 0 leaves nobody aside.
-fn studied(mut stations: Vec<Station>, aside: u32) -> Result<Vec<Station>, Refusal> {
+/// The stations of a table without the one that is left aside, where the proposal may be asked about; 0 leaves nobody aside.
+fn studied(
+    table: &[u8],
+    first: u32,
+    last: u32,
+    proposal: &Proposal,
+    aside: u32,
+) -> Result<Vec<Station>, Refusal> {
+    let mut stations = judge(table)?;
+    judge_proposal(first, last, proposal)?;
     if aside == 0 {
         return Ok(stations);
     }
@@ -364,26 +377,42 @@ fn studied(mut stations: Vec<Station>, aside: u32) -> Result<Vec<Station>, Refus
     Ok(stations)
 }
 
-fn checked(
+/// Why a proposal is blocked, by each station that it is short to, in table order.
+fn blockers(
     table: &[u8],
     channel: u32,
     proposal: &Proposal,
     aside: u32,
-) -> Result<Vec<u32>, Refusal> {
-    let whole = judge(table)?;
-    judge_proposal(channel, channel, proposal)?;
-    let stations = studied(whole, aside)?;
+) -> Result<Vec<[u32; 4]>, Refusal> {
+    let stations = studied(table, channel, channel, proposal, aside)?;
     let new = proposed(0, channel, proposal);
-    let mut rows = Vec::new();
-    for station in stations {
-        if let Some(r) = separation(&new, &station) {
-            let d = kilometres(&new, &station);
-            if d < r {
-                rows.extend([station.id, d, r]);
-            }
-        }
-    }
-    Ok(rows)
+    Ok(stations
+        .iter()
+        .filter_map(|station| blocked_by(&new, station))
+        .collect())
+}
+
+/// The rows of Check.
+fn checked(blockers: Vec<[u32; 4]>) -> Vec<u32> {
+    blockers
+        .iter()
+        .flat_map(|&[id, d, r, _]| [id, d, r])
+        .collect()
+}
+
+/// The reason among the blockers: the largest shortfall, the lowest id among equals.
+fn reason(blockers: Vec<[u32; 4]>) -> Option<[u32; 4]> {
+    blockers
+        .into_iter()
+        .max_by_key(|&[id, d, r, _]| (r - d, Reverse(id)))
+}
+
+/// Where the sixteen bytes of the station with an id begin in a table.
+fn place_in(table: &[u8], id: u32) -> usize {
+    let mut places = (8..table.len()).step_by(16);
+    places
+        .find(|&place| number(&table[place..place + 4]) == id)
+        .expect("it stands in the table")
 }
 
 fn arranged(
@@ -393,9 +422,7 @@ fn arranged(
     proposal: &Proposal,
     aside: u32,
 ) -> Result<Vec<u32>, Refusal> {
-    let whole = judge(table)?;
-    judge_proposal(first, last, proposal)?;
-    let stations = studied(whole, aside)?;
+    let stations = studied(table, first, last, proposal, aside)?;
     let mut rows = Vec::new();
     for channel in first..=last {
         let new = proposed(0, channel, proposal);
@@ -447,8 +474,17 @@ fn delivered<T: Copy>(outcome: Result<Vec<T>, Refusal>, buffer: &mut [T]) -> Res
     Ok(content.len() as u32)
 }
 
-/// Any question; an image goes to `image`, a list to `rows`.
-pub fn ask(question: &Question, table: &[u8], image: &mut [u8], rows: &mut [u32]) -> Answer {
+/// A reason is written, and its place in the table told; 0 where there is none.
+fn told(reason: Option<[u32; 4]>, table: &[u8], buffer: &mut [u32; 4]) -> u32 {
+    let Some(numbers) = reason else {
+        return 0;
+    };
+    *buffer = numbers;
+    place_in(table, numbers[0]) as u32
+}
+
+/// Any question.
+pub fn ask(question: &Question, table: &[u8], lent: Lent) -> Answer {
     let outcome = match question {
         Question::Read => judge(table).map(|stations| stations.len() as u32),
         Question::Distance {
@@ -461,20 +497,29 @@ pub fn ask(question: &Question, table: &[u8], image: &mut [u8], rows: &mut [u32]
             id,
             channel,
             proposal,
-        } => delivered(added(table, *id, *channel, proposal), image),
-        Question::Withdraw { id } => delivered(withdrawn(table, *id), image),
-        Question::Move { id, channel } => delivered(moved(table, *id, *channel), image),
+        } => delivered(added(table, *id, *channel, proposal), lent.image),
+        Question::Withdraw { id } => delivered(withdrawn(table, *id), lent.image),
+        Question::Move { id, channel } => delivered(moved(table, *id, *channel), lent.image),
         Question::Check {
             channel,
             proposal,
             aside,
-        } => delivered(checked(table, *channel, proposal, *aside), rows),
+        } => {
+            let blockers = blockers(table, *channel, proposal, *aside);
+            delivered(blockers.map(checked), lent.rows)
+        }
         Question::Arrange {
             first,
             last,
             proposal,
             aside,
-        } => delivered(arranged(table, *first, *last, proposal, *aside), rows),
+        } => delivered(arranged(table, *first, *last, proposal, *aside), lent.rows),
+        Question::Reason {
+            channel,
+            proposal,
+            aside,
+        } => blockers(table, *channel, proposal, *aside)
+            .map(|blockers| told(reason(blockers), table, lent.reason)),
     };
     match outcome {
         Ok(count) => Answer::Granted(count),

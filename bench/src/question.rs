@@ -9,7 +9,7 @@ pub struct Proposal {
     pub lon: i32,
 }
 
-/// One of the seven questions, but for the table and the lent buffer.
+/// One of the eight questions, but for the table and the lent buffers.
 #[derive(Clone, Copy, Debug, PartialEq, Eq)]
 pub enum Question {
     Read,
@@ -44,12 +44,51 @@ pub enum Question {
         /// As in Check.
         aside: u32,
     },
+    Reason {
+        channel: u32,
+        proposal: Proposal,
+        /// As in Check.
+        aside: u32,
+    },
 }
 
-/// Who answers: a question about a table, with lent room for an image and for a list.
-pub type Ask = fn(&Question, &[u8], &mut [u8], &mut [u32]) -> Answer;
+impl Question {
+    pub fn check(channel: u32, proposal: Proposal, aside: u32) -> Question {
+        Question::Check {
+            channel,
+            proposal,
+            aside,
+        }
+    }
 
-/// A count or a distance, or a refusal with its extra number.
+    pub fn reason(channel: u32, proposal: Proposal, aside: u32) -> Question {
+        Question::Reason {
+            channel,
+            proposal,
+            aside,
+        }
+    }
+
+    /// The room that a granted answer needs: its number of places for an image or a list, and none where there is no such.
+    pub fn room(&self, granted: u32) -> usize {
+        match self {
+            Question::Read | Question::Distance { .. } | Question::Reason { .. } => 0,
+            _ => granted as usize,
+        }
+    }
+}
+
+/// The lent buffers: for an image, for a list, and for the four numbers of a reason.
+pub struct Lent<'a> {
+    pub image: &'a mut [u8],
+    pub rows: &'a mut [u32],
+    pub reason: &'a mut [u32; 4],
+}
+
+/// Who answers: a question about a table, with lent buffers.
+pub type Ask = fn(&Question, &[u8], Lent) -> Answer;
+
+/// A count, a distance, or the place of the station that is the reason (0 for clear); or a refusal with its extra number.
 #[derive(Clone, Copy, Debug, PartialEq, Eq)]
 pub enum Answer {
     Granted(u32),
@@ -57,7 +96,7 @@ pub enum Answer {
 }
 
 impl Answer {
-    /// The answer in a returned word: number in the high half, count, distance or extra number in the low one.
+    /// The answer in a returned word: number in the high half, count, distance, place or extra number in the low one.
     pub fn of(word: u64) -> Answer {
         let number = (word >> 32) as u32;
         let low = word as u32;

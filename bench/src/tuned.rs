@@ -1,8 +1,8 @@
-//! The seven questions tuned by hand for few instructions, in safe Rust. Far records are passed over by one subtraction and one
+//! The eight questions tuned by hand for few instructions, in safe Rust. Far records are passed over by one subtraction and one
 //! comparison: by their latitude alone, or, with `BOX`, by a box of latitudes and longitudes around the site. Records are judged
 //! and passed over one a turn, and with `BOX` four.
 
-use crate::question::{Answer, Proposal, Question};
+use crate::question::{Answer, Lent, Proposal, Question};
 
 const HEADER: usize = 8;
 const RECORD: usize = 16;
@@ -63,12 +63,14 @@ impl Limit {
         let decimetres = decimetres(km);
         Limit {
             squared: decimetres * decimetres,
-            // A degree of latitude is nowhere shorter than 1,105,648,400 units of P.
-            apart: (decimetres * 3_600_000).div_ceil(1_105_648_400) as u32,
+            apart: (decimetres * 3_600_000).div_ceil(LEAST_P) as u32,
             km,
         }
     }
 }
+
+/// A length that no degree of latitude falls below.
+const LEAST_P: u64 = 1_105_648_400;
 
 /// The least distance that rounds to a separation.
 const fn decimetres(km: u32) -> u64 {
@@ -420,6 +422,8 @@ struct Lookout<const BOX: bool> {
     limits: &'static Limits,
     lat: i32,
     lon: i32,
+    /// A length that no degree of longitude falls below between here and a record that is not far.
+    scale: u64,
     /// The seconds of longitude that alone are enough, for each class.
     east: [u32; 8],
     /// The box outside of which nobody is short: its southern and western edge, its height and width.
@@ -439,6 +443,7 @@ impl<const BOX: bool> Lookout<BOX> {
             limits,
             lat,
             lon,
+            scale,
             east,
             south: lat - up as i32,
             west: lon - across as i32,
@@ -464,6 +469,20 @@ impl<const BOX: bool> Lookout<BOX> {
             &self.limits[class(record)],
             squared(self.lat, self.lon, lat(record), lon(record)),
         )
+    }
+
+    /// S of a record that is nearer than a separation; taken where neither its latitude alone nor its longitude alone is enough.
+    #[inline(always)]
+    fn nearer(&self, record: &Record, km: u32) -> Option<u64> {
+        let least = decimetres(km);
+        let enough = least * 3_600_000;
+        if u64::from(self.lat.abs_diff(lat(record))) * LEAST_P >= enough
+            || u64::from(self.lon.abs_diff(lon(record))) * self.scale >= enough
+        {
+            return None;
+        }
+        let (_, s) = self.held(record);
+        (s < least * least).then_some(s)
     }
 
     /// How far a station here and a record reach; nothing where they are spaced on every channel.
@@ -537,18 +556,29 @@ impl<const BOX: bool> Held<BOX> {
         }
     }
 
+    /// The records that are not far, in turn: position, record and column.
+    #[inline(always)]
+    fn near<'a>(
+        &'a self,
+        records: &'a [Record],
+    ) -> impl Iterator<Item = (usize, &'a Record, usize)> + 'a {
+        let passed = |record: &Record| {
+            let column = self.columns[by_channel(record)];
+            column == NONE || self.lookout.spaced(record, usize::from(column & 3))
+        };
+        walk::<BOX>(records, passed).map(|(position, record)| {
+            let column = usize::from(self.columns[by_channel(record)] & 3);
+            (position, record, column)
+        })
+    }
+
     /// The records that are short, in turn: position, record, S and separation.
     #[inline(always)]
     fn short<'a>(
         &'a self,
         records: &'a [Record],
     ) -> impl Iterator<Item = (usize, &'a Record, u64, u32)> + 'a {
-        let passed = |record: &Record| {
-            let column = self.columns[by_channel(record)];
-            column == NONE || self.lookout.spaced(record, usize::from(column & 3))
-        };
-        walk::<BOX>(records, passed).filter_map(|(position, record)| {
-            let column = usize::from(self.columns[by_channel(record)] & 3);
+        self.near(records).filter_map(|(position, record, column)| {
             let (limits, s) = self.lookout.held(record);
             let limit = &limits[column];
             (s < limit.squared).then_some((position, record, s, limit.km))
@@ -574,9 +604,7 @@ fn check<const BOX: bool>(
     aside: u32,
     rows: &mut [u32],
 ) -> Outcome<usize> {
-    let records = judge::<BOX>(table)?;
-    judge_proposal(channel, channel, proposal)?;
-    let aside = left_aside(records, aside)?;
+    let (records, aside) = studied::<BOX>(table, channel, channel, proposal, aside)?;
     let held = Held::<BOX>::new(channel, Place::of(proposal));
     let mut found = Vec::with_capacity(32);
     for (position, record, s, km) in held.short(records) {
@@ -592,6 +620,38 @@ fn check<const BOX: bool>(
     Ok(found.len())
 }
 
+/// The place of the record that is short by the most, of the first among equals, but for the one left aside; 0 where none is short.
+/// Its id, D, R and column are written.
+fn reason<const BOX: bool>(
+    table: &[u8],
+    channel: u32,
+    proposal: &Proposal,
+    aside: u32,
+    reason: &mut [u32; 4],
+) -> Outcome<usize> {
+    let (records, aside) = studied::<BOX>(table, channel, channel, proposal, aside)?;
+    let held = Held::<BOX>::new(channel, Place::of(proposal));
+    let (mut most, mut found) = (0, None);
+    for (position, record, column) in held.near(records) {
+        let km = held.lookout.limits[class(record)][column].km;
+        if km <= most {
+            continue;
+        }
+        // Short by more than the most so far is nearer than a separation that is less by it.
+        if let Some(s) = held.lookout.nearer(record, km - most) {
+            if position != aside {
+                most = km - rounded(s);
+                found = Some((position, record, km, column));
+            }
+        }
+    }
+    let Some((position, record, km, column)) = found else {
+        return Ok(0);
+    };
+    *reason = [id(record), km - most, km, column as u32];
+    Ok(HEADER + RECORD * position)
+}
+
 /// The position of the record with an id, or the one where it would stand.
 fn sought(records: &[Record], wanted: u32) -> Result<usize, usize> {
     records.binary_search_by_key(&wanted, id)
@@ -600,12 +660,23 @@ fn sought(records: &[Record], wanted: u32) -> Result<usize, usize> {
 /// No position of a table.
 const NOWHERE: usize = usize::MAX;
 
-/// The position of the record that is left aside, 23 where there is none with the id; nowhere where nobody is, by id 0.
-fn left_aside(records: &[Record], id: u32) -> Outcome<usize> {
-    if id == 0 {
-        return Ok(NOWHERE);
+/// The records of a table against which a proposal is studied, and the position of the one that is left aside: 23 where there is
+/// none with the id, nowhere where nobody is, by id 0.
+#[inline(always)]
+fn studied<'a, const BOX: bool>(
+    table: &'a [u8],
+    first: u32,
+    last: u32,
+    proposal: &Proposal,
+    aside: u32,
+) -> Outcome<(&'a [Record], usize)> {
+    let records = judge::<BOX>(table)?;
+    judge_proposal(first, last, proposal)?;
+    if aside == 0 {
+        return Ok((records, NOWHERE));
     }
-    sought(records, id).map_err(|_| refusal(23, 0))
+    let position = sought(records, aside).map_err(|_| refusal(23, 0))?;
+    Ok((records, position))
 }
 
 /// The image of records in three parts.
@@ -793,9 +864,7 @@ fn arrange<const BOX: bool>(
     aside: u32,
     rows: &mut [u32],
 ) -> Outcome<usize> {
-    let records = judge::<BOX>(table)?;
-    judge_proposal(first, last, proposal)?;
-    let aside = left_aside(records, aside)?;
+    let (records, aside) = studied::<BOX>(table, first, last, proposal, aside)?;
     let lookout = Lookout::<BOX>::new(Place::of(proposal));
     let survey = survey(records, first, last, aside, &lookout);
     let mut plans = [Plan::Nothing; 80];
@@ -866,22 +935,17 @@ fn write(first: u32, plans: &[Plan], rows: &mut [u32]) {
     }
 }
 
-/// Any question; an image goes to `image`, a list to `rows`. Without the box.
-pub fn ask(question: &Question, table: &[u8], image: &mut [u8], rows: &mut [u32]) -> Answer {
-    answer::<false>(question, table, image, rows)
+/// Any question. Without the box.
+pub fn ask(question: &Question, table: &[u8], lent: Lent) -> Answer {
+    answer::<false>(question, table, lent)
 }
 
 /// The same with the box.
-pub fn ask_box(question: &Question, table: &[u8], image: &mut [u8], rows: &mut [u32]) -> Answer {
-    answer::<true>(question, table, image, rows)
+pub fn ask_box(question: &Question, table: &[u8], lent: Lent) -> Answer {
+    answer::<true>(question, table, lent)
 }
 
-fn answer<const BOX: bool>(
-    question: &Question,
-    table: &[u8],
-    image: &mut [u8],
-    rows: &mut [u32],
-) -> Answer {
+fn answer<const BOX: bool>(question: &Question, table: &[u8], lent: Lent) -> Answer {
     let answer = match *question {
         Question::Read => judge::<BOX>(table).map(<[Record]>::len),
         Question::Distance {
@@ -894,20 +958,25 @@ fn answer<const BOX: bool>(
             id,
             channel,
             ref proposal,
-        } => add::<BOX>(table, id, channel, proposal, image),
-        Question::Withdraw { id } => withdraw::<BOX>(table, id, image),
-        Question::Move { id, channel } => move_to::<BOX>(table, id, channel, image),
+        } => add::<BOX>(table, id, channel, proposal, lent.image),
+        Question::Withdraw { id } => withdraw::<BOX>(table, id, lent.image),
+        Question::Move { id, channel } => move_to::<BOX>(table, id, channel, lent.image),
         Question::Check {
             channel,
             ref proposal,
             aside,
-        } => check::<BOX>(table, channel, proposal, aside, rows),
+        } => check::<BOX>(table, channel, proposal, aside, lent.rows),
         Question::Arrange {
             first,
             last,
             ref proposal,
             aside,
-        } => arrange::<BOX>(table, first, last, proposal, aside, rows),
+        } => arrange::<BOX>(table, first, last, proposal, aside, lent.rows),
+        Question::Reason {
+            channel,
+            ref proposal,
+            aside,
+        } => reason::<BOX>(table, channel, proposal, aside, lent.reason),
     };
     Answer::of(match answer {
         Ok(count) => count as u64,

@@ -2,11 +2,12 @@
 
 mod common;
 
-use common::{agree, agree_in, ROWS};
+use common::{agree, agree_in, class_a, ROWS};
 use fms_bench::made::{
-    damaged, proposal_in, region, region_proposals, scene, scene_of, Area, Chance, Scene, DAMAGES,
-    MANNERS,
+    column_of, damaged, proposal_in, region, region_proposals, scene, scene_of, Area, Chance,
+    Manner, Scene, DAMAGES, LEVEL, MANNERS,
 };
+use fms_bench::naive::{image_of, Station};
 use fms_bench::question::{Answer, Proposal, Question};
 
 /// A proposal near the stations; in one case of eight a wrong one.
@@ -32,6 +33,15 @@ fn channel(chance: &mut Chance) -> u32 {
     }
 }
 
+/// The channel of a station, where it may be asked for, or any.
+fn busy_channel(chance: &mut Chance, scene: &Scene) -> u32 {
+    if scene.stations.is_empty() || chance.once_in(2) {
+        channel(chance)
+    } else {
+        chance.one_of(&scene.stations).channel.max(221)
+    }
+}
+
 /// An id of the table, or another one.
 fn id(chance: &mut Chance, scene: &Scene) -> u32 {
     if chance.once_in(16) {
@@ -52,7 +62,7 @@ fn aside(chance: &mut Chance, scene: &Scene) -> u32 {
     }
 }
 
-/// The seven questions about one scene.
+/// The eight questions about one scene.
 fn questions(chance: &mut Chance, scene: &Scene) -> Vec<Question> {
     let (first, last) = match chance.from(0, 5) {
         0 => (221, 300),
@@ -98,11 +108,8 @@ fn questions(chance: &mut Chance, scene: &Scene) -> Vec<Question> {
             id: id(chance, scene),
             channel: channel(chance),
         },
-        Question::Check {
-            channel: channel(chance),
-            proposal: new,
-            aside: aside(chance, scene),
-        },
+        Question::check(channel(chance), new, aside(chance, scene)),
+        Question::reason(busy_channel(chance, scene), new, aside(chance, scene)),
         Question::Arrange {
             first,
             last,
@@ -110,6 +117,34 @@ fn questions(chance: &mut Chance, scene: &Scene) -> Vec<Question> {
             aside: aside(chance, scene),
         },
     ]
+}
+
+/// Those of Check's rows that have the largest shortfall.
+fn worst(rows: &[[u32; 3]]) -> Vec<[u32; 3]> {
+    let shortfall = |[_, d, r]: &[u32; 3]| r - d;
+    let most = rows.iter().map(shortfall).max();
+    let equal = rows.iter().filter(|row| Some(shortfall(row)) == most);
+    equal.copied().collect()
+}
+
+/// The rows of Check, with the reason held to them: clear exactly where there are none; else the first row with the largest
+/// shortfall, the column of the channel difference, and the record of that id in the lent table.
+fn checked(table: &[u8], channel: u32, proposal: Proposal, aside: u32) -> Vec<[u32; 3]> {
+    let ask = |question| agree_in(&question, table, 0, ROWS);
+    let check = ask(Question::check(channel, proposal, aside));
+    let (rows, _) = check.list().as_chunks::<3>();
+    let first = worst(rows).first().copied();
+    let reason = ask(Question::reason(channel, proposal, aside)).reason();
+    assert_eq!(reason.is_some(), first.is_some());
+    if let (Some((place, numbers)), Some([id, d, r])) = (reason, first) {
+        let (records, _) = table[8..].as_chunks::<16>();
+        let [a, b, c, e, high, low, ..] = records[(place as usize - 8) / 16];
+        assert_eq!(place % 16, 8);
+        assert_eq!(u32::from_be_bytes([a, b, c, e]), id);
+        let difference = channel.abs_diff(u32::from(u16::from_be_bytes([high, low])));
+        assert_eq!(numbers, [id, d, r, column_of(difference) as u32]);
+    }
+    rows.to_vec()
 }
 
 /// Stations of every manner: mostly few, at times many, or as many as there can be and asked about from anywhere; at times all of
@@ -170,6 +205,7 @@ fn made_questions() {
     });
     let mut chance = Chance::new(11);
     let (mut asked, mut granted, mut refused) = (0, 0, [0; 26]);
+    let mut reasons = 0;
     'asking: for turn in 0.. {
         let scene = any_scene(&mut chance, turn);
         let table = any_table(&mut chance, &scene);
@@ -184,15 +220,22 @@ fn made_questions() {
                 }
             }
             match agree(&question, &table).answer {
-                Answer::Granted(_) => granted += 1,
+                Answer::Granted(told) => {
+                    granted += 1;
+                    reasons += usize::from(matches!(question, Question::Reason { .. }) && told > 0);
+                }
                 Answer::Refused { number, .. } => refused[number as usize] += 1,
             }
             asked += 1;
         }
     }
     println!(
-        "{asked} questions: {granted} granted, refused by number from 1 on: {:?}",
+        "{asked} questions: {granted} granted, {reasons} with a reason, refused by number from 1 on: {:?}",
         &refused[1..]
+    );
+    assert!(
+        reasons > asked / 100 || count < 100_000,
+        "{reasons} reasons"
     );
     for (number, met) in refused.iter().enumerate().skip(1) {
         // 22 is met by each that is granted and has something to write, when it has too little room.
@@ -244,27 +287,19 @@ fn twice_damaged_tables() {
     }
 }
 
-/// A table of a region with 2,000 stations: Check on every channel, with nobody and with each short station left aside; Arrange over
-/// the whole range, with nobody and with the nearest of them.
+/// A table of a region with 2,000 stations: Check and the reason on every channel, with nobody and with each short station left
+/// aside; Arrange over the whole range, with nobody and with the nearest of them.
 #[test]
 fn a_region_of_2000() {
     let table = region(1, 2_000);
     for proposal in region_proposals(2, 6) {
         let mut nearest = None;
         for channel in 221..=300 {
-            let check = |aside| {
-                let question = Question::Check {
-                    channel,
-                    proposal,
-                    aside,
-                };
-                agree_in(&question, &table, 0, ROWS).list().to_vec()
-            };
-            let short = check(0);
-            for (place, row) in short.chunks(3).enumerate() {
-                let others = [&short[..3 * place], &short[3 * place + 3..]].concat();
-                assert_eq!(check(row[0]), others);
-                nearest = nearest.into_iter().chain([(row[1], row[0])]).min();
+            let short = checked(&table, channel, proposal, 0);
+            for (place, &[id, d, _]) in short.iter().enumerate() {
+                let others = [&short[..place], &short[place + 1..]].concat();
+                assert_eq!(checked(&table, channel, proposal, id), others);
+                nearest = nearest.into_iter().chain([(d, id)]).min();
             }
         }
         let (_, nearest) = nearest.expect("somebody is short");
@@ -281,12 +316,14 @@ fn a_region_of_2000() {
 }
 
 /// What Check and Arrange answer and write with a station left aside is what they do on the table without it, and its withdrawal
-/// is what makes that table; an id that no station has is refused, and 0 is none.
+/// is what makes that table; so is the reason, but that its place is the one in the lent table. An id that no station has is
+/// refused, and 0 is none.
 #[test]
 fn a_station_left_aside() {
     let mut chance = Chance::new(18);
     let (mut matters, mut asked) = (0, 0);
-    for turn in 0..150 {
+    let (mut other_reasons, mut behind) = (0, 0);
+    for turn in 0..300 {
         let scene = scene(&mut chance, MANNERS[turn % MANNERS.len()], 12);
         let table = scene.table();
         let proposal = proposal_in(&mut chance, scene.area);
@@ -298,11 +335,7 @@ fn a_station_left_aside() {
         let last = chance.from(i64::from(channel), 300) as u32;
         let questions = |aside| {
             [
-                Question::Check {
-                    channel,
-                    proposal,
-                    aside,
-                },
+                Question::check(channel, proposal, aside),
                 Question::Arrange {
                     first,
                     last,
@@ -311,8 +344,10 @@ fn a_station_left_aside() {
                 },
             ]
         };
+        let reason = |aside| Question::reason(channel, proposal, aside);
         let whole = questions(0).map(|question| agree(&question, &table));
-        for station in &scene.stations {
+        let whole_reason = agree(&reason(0), &table).reason();
+        for (own, station) in (8..).step_by(16).zip(&scene.stations) {
             let without = agree(&Question::Withdraw { id: station.id }, &table);
             for (place, question) in questions(station.id).iter().enumerate() {
                 let found = agree(question, &table);
@@ -322,9 +357,18 @@ fn a_station_left_aside() {
                 matters += usize::from(found.list() != whole[place].list());
                 asked += 1;
             }
+            let found = agree(&reason(station.id), &table).reason();
+            let expected = agree(&reason(0), without.image()).reason();
+            let lent = |place| if place < own { place } else { place + 16 };
+            assert_eq!(
+                found,
+                expected.map(|(place, numbers)| (lent(place), numbers))
+            );
+            other_reasons += usize::from(found != whole_reason);
+            behind += usize::from(found.is_some_and(|(place, _)| place > own));
             let absent = station.id + 1;
             if scene.stations.iter().all(|other| other.id != absent) {
-                for question in questions(absent) {
+                for question in questions(absent).into_iter().chain([reason(absent)]) {
                     let refusal = Answer::Refused {
                         number: 23,
                         extra: 0,
@@ -335,6 +379,57 @@ fn a_station_left_aside() {
         }
     }
     assert!(matters > 300, "of {asked} answers {matters} are others");
+    assert!(
+        other_reasons > 100 && behind > 100,
+        "{other_reasons} reasons are others, {behind} stand behind the one left aside"
+    );
+}
+
+/// Stations that are short by the same, alike and unlike: the first of them is the reason, and the next one where it is left aside.
+#[test]
+fn equal_shortfalls() {
+    let mut chance = Chance::new(20);
+    let (mut asked, mut several, mut unlike) = (0, 0, 0);
+    for _ in 0..3_000 {
+        let scene = scene(&mut chance, Manner::Level, 12);
+        let table = scene.table();
+        let proposal = Proposal {
+            station_class: 0,
+            ..proposal_in(&mut chance, scene.area)
+        };
+        let ids = scene.stations.iter().map(|station| station.id);
+        for aside in ids.chain([0]) {
+            let equal = worst(&checked(&table, LEVEL, proposal, aside));
+            asked += 1;
+            several += usize::from(equal.len() > 1);
+            unlike += usize::from(equal.iter().any(|[_, d, _]| *d != equal[0][1]));
+        }
+    }
+    println!("{asked} reasons, {several} among equals, {unlike} of these at other distances");
+    assert!(several > asked / 2 && unlike > asked / 3);
+}
+
+/// Of 2,000 stations one is nearer by 3 km: it is the reason wherever it stands, and the first other one where it is left aside.
+#[test]
+fn one_of_2000() {
+    for nearer in [0, 1, 2, 3, 4, 999, 1_998, 1_999] {
+        let station = |position| Station {
+            id: 10 * position + 7,
+            channel: 250,
+            class: 0,
+            flags: 0,
+            lat: 0,
+            lon: if position == nearer { 900 } else { 1_000 },
+        };
+        let table = image_of(&(0..2_000).map(station).collect::<Vec<_>>());
+        let reason = |aside| {
+            let question = Question::reason(250, class_a(0, 0), aside);
+            agree_in(&question, &table, 0, 0).reason()
+        };
+        let told = |position, d| Some((8 + 16 * position, [10 * position + 7, d, 115, 0]));
+        assert_eq!(reason(0), told(nearer, 28));
+        assert_eq!(reason(10 * nearer + 7), told(u32::from(nearer == 0), 31));
+    }
 }
 
 /// One question for the whole range gives the rows of the 80 questions for one channel each.
@@ -370,7 +465,7 @@ fn one_channel_at_a_time() {
 fn changes_in_a_row() {
     let mut chance = Chance::new(16);
     for _ in 0..40 {
-        let mut table = fms_bench::naive::image_of(&[]);
+        let mut table = image_of(&[]);
         let area = Area::around(
             chance.from(-250_000, 250_000),
             chance.from(-600_000, 600_000),

@@ -3,6 +3,7 @@
 mod common;
 
 use common::{agree_in, table_of_one, zone_for};
+use fms_bench::made::{column_of, DIFFERENCES};
 use fms_bench::naive::{cosines, degrees, km, rounded, squared};
 use fms_bench::question::{Answer, Proposal, Question};
 use std::collections::BTreeMap;
@@ -11,9 +12,6 @@ const E: i128 = 1_000_000_000;
 
 /// The greatest mean latitude, in half-seconds.
 const HIGHEST: i64 = 540_000;
-
-/// A channel difference for each column, and the other one where there are two.
-const DIFFERENCES: [(usize, u32); 6] = [(0, 0), (1, 1), (2, 2), (2, 3), (3, 53), (3, 54)];
 
 /// For each separation that Table A has, one pair of classes and one column that has it.
 fn separations() -> BTreeMap<u32, (u32, u32, usize)> {
@@ -65,10 +63,12 @@ impl Sites {
         }
     }
 
-    /// Holds Check, Arrange and Add for two classes, and the distance, against the naive desk, from either site; answers whether
-    /// they are short.
+    /// Holds Check, the reason, Arrange and Add for two classes, and the distance, against the naive desk, from either site; says
+    /// whether they are short.
     fn held(&self, a: u32, b: u32, difference: u32) -> bool {
         let mut verdicts = Vec::new();
+        let column = column_of(difference);
+        let numbers = [7, self.kilometres(), km(a, b, column), column as u32];
         for (station_class, class, station, asked) in [
             (a, b, 240, 240 + difference),
             (b, a, 240 + difference, 240),
@@ -95,12 +95,12 @@ impl Sites {
                 proposal,
             });
             let check = |aside| {
-                let question = Question::Check {
-                    channel: asked,
-                    proposal,
-                    aside,
-                };
-                !hold(question).list().is_empty()
+                let short = !hold(Question::check(asked, proposal, aside))
+                    .list()
+                    .is_empty();
+                let reason = hold(Question::reason(asked, proposal, aside)).reason();
+                assert_eq!(reason, short.then_some((8, numbers)));
+                short
             };
             // Left aside, the station is short at no distance.
             assert!(!check(7));

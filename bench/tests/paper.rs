@@ -9,7 +9,7 @@ use fms_bench::question::{Answer, Proposal, Question};
 const A: u32 = 0;
 const C: u32 = 7;
 
-/// Whether two stations of one class are short, asked of Check from either end.
+/// Whether two stations of one class are short, asked of Check and for the reason from either end.
 fn is_short(class: u32, difference: u32, first: (i32, i32), second: (i32, i32)) -> bool {
     let mut verdicts = Vec::new();
     for (there, here) in [(first, second), (second, first)] {
@@ -21,12 +21,9 @@ fn is_short(class: u32, difference: u32, first: (i32, i32), second: (i32, i32)) 
                 lat: here.0,
                 lon: here.1,
             };
-            let question = Question::Check {
-                channel: asked,
-                proposal,
-                aside: 0,
-            };
-            verdicts.push(!agree(&question, &table).list().is_empty());
+            let check = agree(&Question::check(asked, proposal, 0), &table);
+            let reason = agree(&Question::reason(asked, proposal, 0), &table);
+            verdicts.extend([!check.list().is_empty(), reason.reason().is_some()]);
         }
     }
     assert!(
@@ -64,24 +61,18 @@ fn p11() {
     assert!(!short(&station, &station));
     let table = image_of(&[station, Station { id: 8, ..station }]);
     assert_eq!(agree(&Question::Read, &table).answer, Answer::Granted(2));
-    let question = Question::Check {
-        channel: 220,
-        proposal: class_a(0, 0),
-        aside: 0,
-    };
-    assert_eq!(
-        agree(&question, &table).answer,
-        Answer::Refused {
+    let [check, reason] = [Question::check, Question::reason];
+    for ask in [check, reason] {
+        let refusal = Answer::Refused {
             number: 13,
-            extra: 0
-        }
-    );
-    let question = Question::Check {
-        channel: 221,
-        proposal: class_a(0, 0),
-        aside: 0,
-    };
-    assert_eq!(agree(&question, &table).list(), [7, 0, 72, 8, 0, 72]);
+            extra: 0,
+        };
+        assert_eq!(agree(&ask(220, class_a(0, 0), 0), &table).answer, refusal);
+    }
+    let found = agree(&check(221, class_a(0, 0), 0), &table);
+    assert_eq!(found.list(), [7, 0, 72, 8, 0, 72]);
+    let found = agree(&reason(221, class_a(0, 0), 0), &table);
+    assert_eq!(found.reason(), Some((8, [7, 0, 72, 1])));
 }
 
 #[test]
@@ -102,28 +93,35 @@ fn decimetres_of_p1_and_p2() {
     assert_eq!(squared(0, 0, 0, 3_703), 1_145_057 * 1_145_057);
 }
 
-/// Differences 0 to 79 at one site: short at 0, 1, 2, 3, 53 and 54 alone.
+/// Differences 0 to 79 at one site: short at 0, 1, 2, 3, 53 and 54 alone, by the separation for two of class A in its column.
 #[test]
 fn differences() {
     for difference in 0..=79 {
-        let expected = matches!(difference, 0..=3 | 53 | 54);
+        let expected = match difference {
+            0 => Some([7, 0, 115, 0]),
+            1 => Some([7, 0, 72, 1]),
+            2 | 3 => Some([7, 0, 31, 2]),
+            53 | 54 => Some([7, 0, 10, 3]),
+            _ => None,
+        };
         assert_eq!(
             is_short(A, difference, (0, 0), (0, 0)),
-            expected,
+            expected.is_some(),
             "difference {difference}"
         );
+        let reason = Question::reason(221 + difference, class_a(0, 0), 0);
+        let found = agree(&reason, &table_of_one(221, A, 0, 0)).reason();
+        assert_eq!(found, expected.map(|numbers| (8, numbers)));
     }
 }
 
 #[test]
 fn whole_output() {
     let table = table_of_one(250, A, 0, 0);
-    let question = Question::Check {
-        channel: 250,
-        proposal: class_a(0, 3_702),
-        aside: 0,
-    };
-    assert_eq!(agree(&question, &table).list(), [7, 114, 115]);
+    let check = Question::check(250, class_a(0, 3_702), 0);
+    assert_eq!(agree(&check, &table).list(), [7, 114, 115]);
+    let reason = Question::reason(250, class_a(0, 3_702), 0);
+    assert_eq!(agree(&reason, &table).reason(), Some((8, [7, 114, 115, 0])));
 }
 
 /// The rows of Arrange over the whole range for class A at (0, 0) in zone 3.
@@ -186,7 +184,7 @@ fn arrange_beside_a_fixed_station() {
 }
 
 /// a movable class A station, id 7, on 260 at (0, 0), and a class A proposal there in zone I. With 7 left aside every channel is
-/// free and nothing is short; 8 is absent.
+/// free, nothing is short and all is clear; 8 is absent.
 #[test]
 fn own_change_of_site() {
     let table = table_of_one(260, A, 0, 0);
@@ -203,27 +201,24 @@ fn own_change_of_site() {
         };
         agree(&question, &table)
     };
-    let checked = |channel, aside| {
-        let question = Question::Check {
-            channel,
-            proposal,
-            aside,
-        };
-        agree(&question, &table)
-    };
+    let checked = |channel, aside| agree(&Question::check(channel, proposal, aside), &table);
+    let reasoned = |channel, aside| agree(&Question::reason(channel, proposal, aside), &table);
     let free: Vec<u32> = (221..=300).flat_map(|channel| [channel, 0, 0]).collect();
     assert_eq!(arranged(7).list(), free);
     assert_eq!(arranged(0).list().len(), 3 * 584);
     for channel in 221..=300 {
         assert_eq!(checked(channel, 7).list(), []);
+        assert_eq!(reasoned(channel, 7).reason(), None);
     }
     assert_eq!(checked(260, 0).list(), [7, 0, 115]);
+    assert_eq!(reasoned(260, 0).reason(), Some((8, [7, 0, 115, 0])));
     let absent = Answer::Refused {
         number: 23,
         extra: 0,
     };
     assert_eq!(arranged(8).answer, absent);
     assert_eq!(checked(260, 8).answer, absent);
+    assert_eq!(reasoned(260, 8).answer, absent);
 }
 
 /// the record left aside neither blocks, nor moves, nor restrains a station that moves.
@@ -267,4 +262,36 @@ fn a_station_left_aside_restrains_nobody() {
     assert_eq!(moves(260, 9), away(&[260]));
     assert_eq!(moves(260, 7), [(0, 0)]);
     assert_eq!(moves(230, 9), [(0, 0)]);
+}
+
+/// neither the first, nor the nearest, nor the one with the largest separation, but the one with the largest shortfall; the
+/// lowest id among equals; and the next one where that is left aside, its bytes still where they lie in the lent table.
+#[test]
+fn the_largest_shortfall() {
+    let station = |id, channel, class, lon| Station {
+        id,
+        channel,
+        class,
+        flags: 0,
+        lat: 0,
+        lon,
+    };
+    // D is 0, 43, 115, 0, 79 and 0; R is 31, 115, 165, 72, 115 and 10: short by 31, 72, 50, 72, 36 and 10.
+    let table = image_of(&[
+        station(2, 258, A, 0),
+        station(4, 256, A, 1_391),
+        station(6, 257, C, 3_719),
+        station(8, 255, A, 0),
+        station(10, 256, A, -2_555),
+        station(12, 203, A, 0),
+    ]);
+    let rows = agree(&Question::check(256, class_a(0, 0), 0), &table);
+    let shortfalls = rows.list().chunks(3).map(|row| row[2] - row[1]);
+    assert_eq!(shortfalls.collect::<Vec<_>>(), [31, 72, 50, 72, 36, 10]);
+    let reason = |aside| agree(&Question::reason(256, class_a(0, 0), aside), &table).reason();
+    assert_eq!(reason(0), Some((24, [4, 43, 115, 0])));
+    assert_eq!(reason(4), Some((56, [8, 0, 72, 1])));
+    for other in [2, 6, 8, 10, 12] {
+        assert_eq!(reason(other), reason(0));
+    }
 }

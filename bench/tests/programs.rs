@@ -8,12 +8,20 @@ use std::io::Write;
 use std::path::{Path, PathBuf};
 use std::process::{Command, Stdio};
 
-use common::{IMAGE, ROWS};
-use fms_bench::made::{damaged, proposal_in, scene, Chance, Scene, DAMAGES, MANNERS};
+use common::{class_a, table_of_one, IMAGE, ROWS};
+use fms_bench::made::{
+    damaged, proposal_in, scene, Chance, Manner, Scene, DAMAGES, LEVEL, MANNERS,
+};
 use fms_bench::naive;
-use fms_bench::question::{Answer, Proposal, Question};
+use fms_bench::question::{Answer, Lent, Proposal, Question};
 
-const PROGRAMS: [&str; 4] = ["fm_check", "fm_arrange", "fm_change", "fm_study"];
+const PROGRAMS: [&str; 5] = [
+    "fm_check",
+    "fm_arrange",
+    "fm_change",
+    "fm_study",
+    "fm_reason",
+];
 
 fn path(program: &str) -> PathBuf {
     Path::new(env!("CARGO_MANIFEST_DIR"))
@@ -71,11 +79,12 @@ fn proposal_at(input: &[u8], at: usize) -> Proposal {
 
 /// What fm_check reads from a place on.
 fn check_at(input: &[u8], at: usize, aside: u32) -> Question {
-    Question::Check {
-        channel: u16_at(input, at),
-        proposal: proposal_at(input, at + 2),
-        aside,
-    }
+    Question::check(u16_at(input, at), proposal_at(input, at + 2), aside)
+}
+
+/// What fm_reason reads: what fm_check does, and then the id left aside.
+fn reason_in(input: &[u8]) -> Question {
+    Question::reason(u16_at(input, 0), proposal_at(input, 2), u32_at(input, 12))
 }
 
 /// What fm_arrange reads from a place on.
@@ -92,6 +101,7 @@ fn arrange_at(input: &[u8], at: usize, aside: u32) -> Question {
 fn question(program: &str, input: &[u8]) -> Option<(Question, usize)> {
     let (question, from): (fn(&[u8]) -> Question, usize) = match (program, input.first()) {
         ("fm_check", _) => (|input| check_at(input, 0, 0), 12),
+        ("fm_reason", _) => (reason_in, 16),
         ("fm_arrange", _) => (|input| arrange_at(input, 0, 0), 10),
         ("fm_change", Some(b'a')) => (
             |input| Question::Add {
@@ -137,7 +147,13 @@ fn printed(program: &str, input: &[u8]) -> Vec<u8> {
     };
     let mut image = vec![0; IMAGE];
     let mut rows = vec![0; ROWS];
-    let answer = naive::ask(&question, &input[from..], &mut image, &mut rows);
+    let mut reason = [0; 4];
+    let lent = Lent {
+        image: &mut image,
+        rows: &mut rows,
+        reason: &mut reason,
+    };
+    let answer = naive::ask(&question, &input[from..], lent);
     let count = match answer {
         Answer::Refused { number, extra } => {
             return format!("refused {number} {extra}\n").into_bytes()
@@ -146,6 +162,11 @@ fn printed(program: &str, input: &[u8]) -> Vec<u8> {
     };
     let mut text = match question {
         Question::Distance { .. } => return format!("{count}\n").into_bytes(),
+        Question::Reason { .. } if count == 0 => return b"clear\n".to_vec(),
+        Question::Reason { .. } => {
+            let [id, d, r, column] = reason;
+            return format!("{id} {d} {r} {column}\n").into_bytes();
+        }
         Question::Check { .. } => format!("short {}\n", count / 3),
         Question::Arrange { .. } => String::new(),
         _ => return image[..count].to_vec(),
@@ -157,16 +178,22 @@ fn printed(program: &str, input: &[u8]) -> Vec<u8> {
 }
 
 fn put_proposal(chance: &mut Chance, scene: &Scene, input: &mut Vec<u8>) {
-    let proposal = proposal_in(chance, scene.area);
-    let wrong = chance.from(0, 48);
-    input.push(if wrong == 0 {
-        8
-    } else {
-        proposal.station_class as u8
-    });
-    input.push(if wrong == 1 { 4 } else { proposal.zone as u8 });
-    input.extend(if wrong == 2 { 270_001 } else { proposal.lat }.to_be_bytes());
-    input.extend(if wrong == 3 { -648_001 } else { proposal.lon }.to_be_bytes());
+    let mut proposal = proposal_in(chance, scene.area);
+    match chance.from(0, 48) {
+        0 => proposal.station_class = 8,
+        1 => proposal.zone = 4,
+        2 => proposal.lat = 270_001,
+        3 => proposal.lon = -648_001,
+        _ => {}
+    }
+    input.extend(proposal_bytes(&proposal));
+}
+
+fn proposal_bytes(proposal: &Proposal) -> Vec<u8> {
+    let mut bytes = vec![proposal.station_class as u8, proposal.zone as u8];
+    bytes.extend(proposal.lat.to_be_bytes());
+    bytes.extend(proposal.lon.to_be_bytes());
+    bytes
 }
 
 fn put_channel(chance: &mut Chance, input: &mut Vec<u8>) {
@@ -187,6 +214,15 @@ fn put_id(chance: &mut Chance, scene: &Scene, input: &mut Vec<u8>) {
     input.extend(id.to_be_bytes());
 }
 
+/// An id to leave aside, at times none.
+fn put_aside(chance: &mut Chance, scene: &Scene, input: &mut Vec<u8>) {
+    if chance.once_in(4) {
+        input.extend([0; 4]);
+    } else {
+        put_id(chance, scene, input);
+    }
+}
+
 fn put_site(chance: &mut Chance, scene: &Scene, input: &mut Vec<u8>) {
     let site = proposal_in(chance, scene.area);
     let (lat, lon) = (chance.once_in(16), chance.once_in(16));
@@ -197,9 +233,12 @@ fn put_site(chance: &mut Chance, scene: &Scene, input: &mut Vec<u8>) {
 /// What stands before the table of an input of a program, and whether a table follows.
 fn put_question(chance: &mut Chance, program: &str, scene: &Scene, input: &mut Vec<u8>) -> bool {
     match program {
-        "fm_check" => {
+        "fm_check" | "fm_reason" => {
             put_channel(chance, input);
             put_proposal(chance, scene, input);
+            if program == "fm_reason" {
+                put_aside(chance, scene, input);
+            }
         }
         "fm_arrange" => put_proposal(chance, scene, input),
         "fm_change" => match chance.from(0, 12) {
@@ -232,11 +271,7 @@ fn put_question(chance: &mut Chance, program: &str, scene: &Scene, input: &mut V
                 put_site(chance, scene, input);
                 return chance.once_in(8);
             }
-            if chance.once_in(4) {
-                input.extend([0; 4]);
-            } else {
-                put_id(chance, scene, input);
-            }
+            put_aside(chance, scene, input);
             if letter != b'a' {
                 put_channel(chance, input);
             }
@@ -298,6 +333,15 @@ fn held(program: &str, input: &[u8], name: &str) -> Vec<u8> {
     told
 }
 
+/// Cut before its table or in the header of it, an input is refused with 1.
+fn held_cut(program: &str, input: &[u8]) {
+    let (_, from) = question(program, input).expect("a whole input");
+    for length in 0..from + 8 {
+        let told = held(program, &input[..length], "a cut input");
+        assert_eq!(told, b"refused 1 0\n");
+    }
+}
+
 #[test]
 fn programs_print_what_the_paper_says() {
     if !programs_run() {
@@ -324,8 +368,8 @@ fn a_study_of_a_table() {
         return;
     }
     let mut chance = Chance::new(19);
-    for turn in 0..6 {
-        let scene = scene(&mut chance, MANNERS[turn % MANNERS.len()], 12);
+    for (turn, manner) in MANNERS.into_iter().enumerate() {
+        let scene = scene(&mut chance, manner, 12);
         for (letter, program) in [(b'c', "fm_check"), (b'a', "fm_arrange")] {
             let mut plain = Vec::new();
             put_question(&mut chance, program, &scene, &mut plain);
@@ -343,12 +387,45 @@ fn a_study_of_a_table() {
                 assert_eq!(held("fm_study", &input, "another letter"), b"refused 1 0\n");
             }
             if turn == 0 {
-                let whole = study(present.unwrap_or(7));
-                for length in 0..whole.len().min(26) {
-                    let told = held("fm_study", &whole[..length], "a cut input");
-                    assert!(told.starts_with(b"refused "));
-                }
+                held_cut("fm_study", &study(present.unwrap_or(7)));
             }
+        }
+    }
+}
+
+/// fm_reason: the paper's example, and the same with its station and with an absent one left aside; stations that are short by the
+/// same, where it prints what the naive desk says, and `clear` exactly where fm_study prints `short 0`.
+#[test]
+fn a_reason_for_a_sheet() {
+    if !programs_run() {
+        return;
+    }
+    let asked = |channel: u32, proposal: &Proposal| {
+        let channel = (channel as u16).to_be_bytes();
+        [&channel[..], &proposal_bytes(proposal)].concat()
+    };
+    let example = |aside: u32| {
+        let (asked, table) = (asked(250, &class_a(0, 3_702)), table_of_one(250, 0, 0, 0));
+        [&asked[..], &aside.to_be_bytes(), &table].concat()
+    };
+    for (aside, line) in [(0, "7 114 115 0"), (7, "clear"), (8, "refused 23 0")] {
+        let told = held("fm_reason", &example(aside), "the example");
+        assert_eq!(told, format!("{line}\n").as_bytes());
+    }
+    held_cut("fm_reason", &example(0));
+    let mut chance = Chance::new(21);
+    for _ in 0..8 {
+        let scene = scene(&mut chance, Manner::Level, 8);
+        let table = scene.table();
+        let (lat, lon) = (scene.area.lat.0 as i32, scene.area.lon.0 as i32);
+        let asked = asked(LEVEL + chance.from(0, 2) as u32, &class_a(lat, lon));
+        let ids = scene.stations.iter().map(|station| station.id);
+        for aside in ids.chain([0]) {
+            let input = [&asked[..], &aside.to_be_bytes(), &table].concat();
+            let told = held("fm_reason", &input, &format!("id {aside}"));
+            let study = [b"c", &aside.to_be_bytes()[..], &asked, &table].concat();
+            let check = run("fm_study", &study).expect("it starts");
+            assert_eq!(told == b"clear\n", check == b"short 0\n");
         }
     }
 }

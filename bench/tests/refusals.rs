@@ -25,9 +25,10 @@ fn refused(question: &Question, table: &[u8], number: u32, extra: u32) {
     }
 }
 
-/// The question is granted this count, and refused with 22 and the count when it has one place less, or none.
+/// The question is granted this number with the room it needs, and refused with 22 and the number when it has one place less, or
+/// none.
 fn granted(question: &Question, table: &[u8], count: u32) {
-    let room = count as usize;
+    let room = question.room(count);
     for more in [0, 1, 40] {
         let outcome = agree_in(question, table, room + more, room + more);
         assert_eq!(outcome.answer, Answer::Granted(count), "{question:?}");
@@ -61,8 +62,8 @@ const STATION: Station = Station {
     lon: 0,
 };
 
-/// The questions on a table, right ones and ones with faults of their own; Check and Arrange with nobody, with the first and the
-/// second record of the table of two, and with an absent id left aside.
+/// The questions on a table, right ones and ones with faults of their own; the studies with nobody, with the first and the second
+/// record of the table of two, and with an absent id left aside.
 fn questions_on_a_table() -> Vec<Question> {
     let right = class_a(100_000, 100_000);
     let wrong = Proposal {
@@ -89,21 +90,26 @@ fn questions_on_a_table() -> Vec<Question> {
     questions
 }
 
-/// Check and Arrange of one channel, with an id left aside.
-fn studies(channel: u32, proposal: Proposal, aside: u32) -> [Question; 2] {
+/// Check, Arrange and the reason, of one channel, with an id left aside.
+fn studies(channel: u32, proposal: Proposal, aside: u32) -> [Question; 3] {
+    let arrange = Question::Arrange {
+        first: channel,
+        last: channel,
+        proposal,
+        aside,
+    };
     [
-        Question::Check {
-            channel,
-            proposal,
-            aside,
-        },
-        Question::Arrange {
-            first: channel,
-            last: channel,
-            proposal,
-            aside,
-        },
+        Question::check(channel, proposal, aside),
+        arrange,
+        Question::reason(channel, proposal, aside),
     ]
+}
+
+/// The studies of one channel are granted these: the counts of Check and Arrange, and the place of the reason.
+fn studies_granted(channel: u32, proposal: Proposal, aside: u32, table: &[u8], told: [u32; 3]) {
+    for (question, count) in studies(channel, proposal, aside).iter().zip(told) {
+        granted(question, table, count);
+    }
 }
 
 /// The table is refused with this by every question on a table, before anything of the question's own.
@@ -340,10 +346,10 @@ fn refusal_12() {
     );
 }
 
-/// A proposal that is refused with this by Check, Arrange and Add, on an empty table and on one of two.
+/// A proposal that is refused with this by the studies and by Add, on an empty table and on one of two.
 fn proposal_refused(channel: u32, proposal: Proposal, number: u32) {
     for table in [image_of(&[]), two()] {
-        // A present id left aside changes nothing, and an absent one comes later in Check and Arrange.
+        // A present id left aside changes nothing, and an absent one comes later.
         for aside in [0, 7, 9] {
             for question in studies(channel, proposal, aside) {
                 refused(&question, &table, number, 0);
@@ -485,9 +491,7 @@ fn refusal_16() {
                 } else if lat == 270_001 {
                     proposal_refused(250, proposal, 17);
                 } else {
-                    for (question, count) in studies(250, proposal, 0).iter().zip([0, 3]) {
-                        granted(question, &image_of(&[]), count);
-                    }
+                    studies_granted(250, proposal, 0, &image_of(&[]), [0, 3, 0]);
                     granted(
                         &Question::Add {
                             id: 1,
@@ -543,8 +547,7 @@ fn refusal_17() {
         (270_000, -648_000),
         (-270_000, 648_000),
     ] {
-        let [check, _] = studies(250, class_a(lat, lon), 0);
-        granted(&check, &two(), 0);
+        studies_granted(250, class_a(lat, lon), 0, &two(), [0, 3, 0]);
         let question = Question::Distance {
             lat1: lat,
             lon1: lon,
@@ -970,11 +973,16 @@ fn refusal_21() {
 
 #[test]
 fn refusal_22() {
-    // Check: three numbers for each short station.
-    let [check, _] = studies(250, class_a(0, 0), 0);
-    granted(&check, &image_of(&[]), 0);
-    granted(&check, &table_of_one(250, 0, 0, 0), 3);
-    granted(&check, &full(STATION), 6_000);
+    // Check: three numbers for each short station. The reason is never refused for its room.
+    let [check, _, reason] = studies(250, class_a(0, 0), 0);
+    for (table, count, place) in [
+        (image_of(&[]), 0, 0),
+        (table_of_one(250, 0, 0, 0), 3, 8),
+        (full(STATION), 6_000, 8),
+    ] {
+        granted(&check, &table, count);
+        granted(&reason, &table, place);
+    }
     // Arrange: the paper's counts.
     let arrange = |aside| Question::Arrange {
         first: 221,
@@ -988,11 +996,12 @@ fn refusal_22() {
     // With a station left aside, the room is that of the table without it.
     granted(&arrange(7), &table_of_one(260, 0, 0, 0), 240);
     for aside in [10, 10_000, 20_000] {
-        let [check, _] = studies(250, class_a(0, 0), aside);
+        let [check, _, reason] = studies(250, class_a(0, 0), aside);
         granted(&check, &full(STATION), 5_997);
         granted(&arrange(aside), &full(STATION), 3 * 73);
+        granted(&reason, &full(STATION), if aside == 10 { 24 } else { 8 });
     }
-    let [_, one] = studies(260, class_a(0, 0), 0);
+    let [_, one, _] = studies(260, class_a(0, 0), 0);
     granted(&one, &table_of_one(260, 0, 0, 0), 3 * 73);
     granted(
         &one,
@@ -1044,7 +1053,7 @@ fn refusal_23() {
             }
         }
     }
-    // A nonzero id that Check and Arrange should leave aside, before the room that their answers at (0, 0) need.
+    // A nonzero id that the studies should leave aside, before the room that their answers at (0, 0) need.
     for table in [image_of(&[]), two(), full(STATION)] {
         for aside in [1, 6, 9, 15, 20_001, u32::MAX] {
             for lat in [0, 200_000] {
@@ -1055,10 +1064,8 @@ fn refusal_23() {
         }
     }
     // Id 0 leaves nobody aside; with a station left aside the answer is that of the table without it.
-    for (aside, short, arranged) in [(0, 3, 3 * 73), (7, 0, 3), (8, 3, 3 * 73)] {
-        let [check, arrange] = studies(250, class_a(0, 0), aside);
-        granted(&check, &two(), short);
-        granted(&arrange, &two(), arranged);
+    for (aside, told) in [(0, [3, 3 * 73, 8]), (7, [0, 3, 0]), (8, [3, 3 * 73, 8])] {
+        studies_granted(250, class_a(0, 0), aside, &two(), told);
     }
     // Withdraw takes a fixed station, and one at or below 220.
     let table = image_of(&[
@@ -1082,12 +1089,11 @@ fn refusal_23() {
     for id in 1..=3 {
         granted(&Question::Withdraw { id }, &table, 40);
     }
-    // Check and Arrange leave them aside as well: each is the only one in the way on a channel, and does not move.
+    // The studies leave them aside as well: each is the only one in the way on a channel, and does not move.
     for (id, channel) in [(1, 250), (2, 254), (3, 221)] {
-        for (aside, short, arranged) in [(0, 3, 0), (id, 0, 3), (id % 3 + 1, 3, 0)] {
-            let [check, arrange] = studies(channel, class_a(0, 0), aside);
-            granted(&check, &table, short);
-            granted(&arrange, &table, arranged);
+        let blocked = [3, 0, 8 + 16 * (id - 1)];
+        for (aside, told) in [(0, blocked), (id, [0, 3, 0]), (id % 3 + 1, blocked)] {
+            studies_granted(channel, class_a(0, 0), aside, &table, told);
         }
     }
 }

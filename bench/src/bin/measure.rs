@@ -1,13 +1,13 @@
 //! measure WHO WHAT SIZE SITES: one workload. Prints what came of it, the same for all who answer alike; then makes the same calls
 //! again from `measured`, so that callgrind can count them alone.
 
-use fms_bench::question::{Answer, Ask, Proposal, Question};
+use fms_bench::question::{Answer, Ask, Lent, Proposal, Question};
 use fms_bench::{fms, made, naive, tuned};
 use std::hint::black_box;
 use std::process::exit;
 
 const USAGE: &str = "usage: measure product|tuned|tuned-box|naive \
-    read|check|check-aside|arrange|arrange-aside|arrange-one-by-one|add|withdraw|move 250|2000 SITES";
+    read|check|check-aside|reason|reason-aside|arrange|arrange-aside|arrange-one-by-one|add|withdraw|move 250|2000 SITES";
 
 /// Who answers.
 fn named(who: &str) -> Option<Ask> {
@@ -23,14 +23,6 @@ fn named(who: &str) -> Option<Ask> {
 /// Channels 221 to 300, in each turn from another one on.
 fn channels(turn: usize) -> impl Iterator<Item = u32> {
     (0..80).map(move |place| 221 + (7 * turn as u32 + place) % 80)
-}
-
-fn check(channel: u32, proposal: Proposal, aside: u32) -> Question {
-    Question::Check {
-        channel,
-        proposal,
-        aside,
-    }
 }
 
 fn arrange(first: u32, last: u32, proposal: Proposal, aside: u32) -> Question {
@@ -49,15 +41,14 @@ fn in_the_way(
     proposal: Proposal,
     other: u32,
 ) -> u32 {
-    let mut rows = vec![0; 3 * 2_000];
+    let mut buffers = Buffers::new();
     let mut nearest = None;
     for channel in channels {
-        let Answer::Granted(count) =
-            tuned::ask_box(&check(channel, proposal, 0), table, &mut [], &mut rows)
-        else {
+        let check = Question::check(channel, proposal, 0);
+        let Answer::Granted(count) = tuned::ask_box(&check, table, buffers.lent()) else {
             panic!("every site is one that may be asked about")
         };
-        let found = rows[..count as usize].chunks_exact(3);
+        let found = buffers.rows[..count as usize].chunks_exact(3);
         nearest = found.map(|row| (row[1], row[0])).chain(nearest).min();
     }
     nearest.map_or(other, |(_, id)| id)
@@ -65,9 +56,9 @@ fn in_the_way(
 
 /// The first of some changes that is granted.
 fn granted(table: &[u8], mut changes: impl Iterator<Item = Question>) -> Vec<Question> {
-    let mut image = vec![0; table.len() + 16];
+    let mut buffers = Buffers::new();
     let change = changes.find(|change| {
-        let answer = tuned::ask_box(change, table, &mut image, &mut []);
+        let answer = tuned::ask_box(change, table, buffers.lent());
         matches!(answer, Answer::Granted(_))
     });
     vec![change.expect("one is granted")]
@@ -87,13 +78,17 @@ fn questions(what: &str, table: &[u8], sites: &[Proposal]) -> Option<Vec<Questio
         let ids = &ids[turn * ids.len() / sites.len()..];
         questions.extend(match what {
             "read" => vec![Question::Read],
-            "check" | "check-aside" => {
+            "check" | "check-aside" | "reason" | "reason-aside" => {
                 let channel = channels(turn).next().expect("80 channels");
                 let aside = match what {
-                    "check" => 0,
+                    "check" | "reason" => 0,
                     _ => in_the_way(table, channel..=channel, proposal, ids[0]),
                 };
-                vec![check(channel, proposal, aside)]
+                let ask = match what {
+                    "check" | "check-aside" => Question::check,
+                    _ => Question::reason,
+                };
+                vec![ask(channel, proposal, aside)]
             }
             "arrange" => vec![arrange(221, 300, proposal, 0)],
             "arrange-aside" => {
@@ -127,13 +122,37 @@ fn questions(what: &str, table: &[u8], sites: &[Proposal]) -> Option<Vec<Questio
     Some(questions)
 }
 
+/// Room for any answer.
+struct Buffers {
+    image: Vec<u8>,
+    rows: Vec<u32>,
+    reason: [u32; 4],
+}
+
+impl Buffers {
+    fn new() -> Buffers {
+        Buffers {
+            image: vec![0; 8 + 16 * 2_000],
+            rows: vec![0; 3 * 80 * 79],
+            reason: [0; 4],
+        }
+    }
+
+    fn lent(&mut self) -> Lent<'_> {
+        Lent {
+            image: &mut self.image,
+            rows: &mut self.rows,
+            reason: &mut self.reason,
+        }
+    }
+}
+
 /// A workload: who answers, what is asked about which table, and the lent buffers.
 struct Workload {
     ask: Ask,
     table: Vec<u8>,
     questions: Vec<Question>,
-    image: Vec<u8>,
-    rows: Vec<u32>,
+    buffers: Buffers,
 }
 
 impl Workload {
@@ -155,8 +174,7 @@ impl Workload {
             ask,
             questions: questions(what, &table, &sites)?,
             table,
-            image: vec![0; 8 + 16 * size],
-            rows: vec![0; 3 * 80 * 79],
+            buffers: Buffers::new(),
         })
     }
 
@@ -164,16 +182,23 @@ impl Workload {
     fn told(&mut self) -> String {
         let (mut sum, mut granted) = (0u64, 0);
         for question in &self.questions {
-            let answer = (self.ask)(question, &self.table, &mut self.image, &mut self.rows);
+            let answer = (self.ask)(question, &self.table, self.buffers.lent());
             let written = match answer {
-                Answer::Granted(count) => count as usize,
+                Answer::Granted(count) => question.room(count),
                 Answer::Refused { .. } => 0,
             };
             granted += usize::from(matches!(answer, Answer::Granted(_)));
+            let Buffers {
+                image,
+                rows,
+                reason,
+            } = &self.buffers;
+            let bytes = image.iter().take(written);
+            let numbers = rows.iter().take(written).chain(reason);
             sum = [answer.word()]
                 .into_iter()
-                .chain(self.image.iter().take(written).map(|&byte| byte.into()))
-                .chain(self.rows.iter().take(written).map(|&number| number.into()))
+                .chain(bytes.map(|&byte| byte.into()))
+                .chain(numbers.map(|&number| number.into()))
                 .fold(sum, |sum, word| sum.wrapping_mul(31).wrapping_add(word));
         }
         format!("{sum}, {granted} of {} granted", self.questions.len())
@@ -185,12 +210,7 @@ impl Workload {
 #[inline(never)]
 fn measured(work: &mut Workload) {
     for question in &work.questions {
-        black_box((work.ask)(
-            question,
-            &work.table,
-            &mut work.image,
-            &mut work.rows,
-        ));
+        black_box((work.ask)(question, &work.table, work.buffers.lent()));
     }
 }
 

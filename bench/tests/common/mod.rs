@@ -2,7 +2,7 @@
 #![allow(dead_code)]
 
 use fms_bench::naive::{image_of, Station};
-use fms_bench::question::{Answer, Ask, Proposal, Question};
+use fms_bench::question::{Answer, Ask, Lent, Proposal, Question};
 use fms_bench::{fms, naive, tuned};
 
 /// What stands in a buffer before it is lent.
@@ -16,19 +16,20 @@ const BEYOND: usize = 5;
 pub const IMAGE: usize = 8 + 16 * 2_000;
 pub const ROWS: usize = 3 * 80 * 79;
 
-/// The answer, and both buffers with what lies beyond their lent parts.
+/// The answer, and all buffers with what lies beyond their lent parts.
 #[derive(Clone, Debug, PartialEq, Eq)]
 pub struct Outcome {
     pub answer: Answer,
     image: Vec<u8>,
     rows: Vec<u32>,
+    reason: [u32; 4 + BEYOND],
 }
 
 impl Outcome {
     /// Nothing was written, in the lent part or beyond.
     pub fn untouched(&self) -> bool {
-        self.image.iter().all(|&byte| byte == BYTE)
-            && self.rows.iter().all(|&number| number == NUMBER)
+        let mut numbers = self.rows.iter().chain(&self.reason);
+        self.image.iter().all(|&byte| byte == BYTE) && numbers.all(|&number| number == NUMBER)
     }
 
     /// The list that was granted.
@@ -46,6 +47,22 @@ impl Outcome {
         };
         &self.image[..count as usize]
     }
+
+    /// The reason that was granted: the place of the station, and its id, D, R and column; nothing, and nothing written, where
+    /// it is clear.
+    pub fn reason(&self) -> Option<(u32, [u32; 4])> {
+        match self.answer {
+            Answer::Granted(0) => {
+                assert!(self.untouched(), "clear, and yet something was written");
+                None
+            }
+            Answer::Granted(place) => {
+                let [id, d, r, column, ..] = self.reason;
+                Some((place, [id, d, r, column]))
+            }
+            Answer::Refused { .. } => panic!("refused: {:?}", self.answer),
+        }
+    }
 }
 
 fn outcome(
@@ -57,16 +74,18 @@ fn outcome(
 ) -> Outcome {
     let mut image = vec![BYTE; image_room + BEYOND];
     let mut rows = vec![NUMBER; rows_room + BEYOND];
-    let answer = ask(
-        question,
-        table,
-        &mut image[..image_room],
-        &mut rows[..rows_room],
-    );
+    let mut reason = [NUMBER; 4 + BEYOND];
+    let lent = Lent {
+        image: &mut image[..image_room],
+        rows: &mut rows[..rows_room],
+        reason: reason.first_chunk_mut().expect("it has four places"),
+    };
+    let answer = ask(question, table, lent);
     Outcome {
         answer,
         image,
         rows,
+        reason,
     }
 }
 
@@ -127,11 +146,10 @@ pub fn agree_in(question: &Question, table: &[u8], image_room: usize, rows_room:
 pub fn agree(question: &Question, table: &[u8]) -> Outcome {
     let ample = agree_in(question, table, table.len() + 40, ROWS);
     if let Answer::Granted(count) = ample.answer {
-        let need = count as usize;
+        let need = question.room(count);
         for room in [need, need + 1, need.saturating_sub(1), 0] {
             let tight = agree_in(question, table, room, room);
-            let written = !matches!(question, Question::Read | Question::Distance { .. });
-            if written && room < need {
+            if room < need {
                 assert_eq!(
                     tight.answer,
                     Answer::Refused {

@@ -20,9 +20,10 @@ use Rattle.desk.specs.Answers.{Outcome, deny, onTable}
 use Rattle.survey.specs.declared.Terms.{Terms}
 use Rattle.studies.specs.Studies.{study}
 use Rattle.checks.specs.Check.{checkedFor}
+use Rattle.reasons.specs.Reason.{reasonedFor}
 use Rattle.arrangements.specs.Arrange.{arrangedFor}
 use Rattle.changes.specs.Changes.{changedFor}
-use Rattle.asking.specs.Asking.{past, checkInput, arrangeInput, addInput, withdrawInput, moveInput, changeInput, distanceInput}
+use Rattle.asking.specs.Asking.{past, checkInput, reasonInput, arrangeInput, addInput, withdrawInput, moveInput, changeInput, distanceInput}
 
 -- the bytes that a program reads
 abbrev pub most : ℕ
@@ -56,6 +57,10 @@ module _ (m : ℕ) (g : enough ≤ m) (input : List ℕ) (h : m < length input) 
   unfolding checkInput checkedFor study
   long-check t = too-long 12 (omega arith) _ _
 
+  long-reason : reasonInput (take m input) ≡ reasonInput input
+  unfolding reasonInput reasonedFor study
+  long-reason = too-long 16 (omega arith) _ _
+
   long-arrange : (first last : ℕ) (t : Terms) → arrangeInput first last t (take m input) ≡ arrangeInput first last t input
   unfolding arrangeInput arrangedFor study
   long-arrange first last t = too-long 10 (omega arith) _ _
@@ -87,6 +92,9 @@ read-part m f long input = elim (decLt m (length input)) [ yes h ↦ long input 
 module _ (m : ℕ) (g : enough ≤ m) where
   pub read-check : (t : Terms) (input : List ℕ) → checkInput t (take m input) ≡ checkInput t input
   read-check t = read-part m (checkInput t) (λ input h. long-check m g input h t)
+
+  pub read-reason : (input : List ℕ) → reasonInput (take m input) ≡ reasonInput input
+  read-reason = read-part m reasonInput (long-reason m g)
 
   pub read-arrange : (first last : ℕ) (t : Terms) (input : List ℕ) → arrangeInput first last t (take m input) ≡ arrangeInput first last t input
   read-arrange first last t = read-part m (arrangeInput first last t) (λ input h. long-arrange m g input h first last t)

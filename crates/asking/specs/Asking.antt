@@ -1,8 +1,8 @@
--- 01, The programs; 02, R-1: the question that a program's whole input puts. First what is proposed, big-endian, then the
+-- 01, The programs; 02, R-1, R-2: the question that a program's whole input puts. First what is proposed, big-endian, then the
 -- table. Assumes nothing.
 use mathlib.Core.Bool.{not}
 use mathlib.Core.List.{List}
-use Prim.Native.Nat.{ℕ}
+use Prim.Native.Nat.{ℕ, _+_}
 use lib.Dec.{ltb, eqb}
 use lib.IntN.{ℤ}
 use lib.ListN.{length, drop}
@@ -18,6 +18,8 @@ use Rattle.desk.specs.declared.Answer.{Answer}
 use Rattle.desk.specs.declared.Answer.the-variants.{Refused}
 use Rattle.checks.specs.declared.Proposal.{Proposal}
 use Rattle.checks.specs.Check.{checkedFor}
+use Rattle.reasons.specs.Reason.{reasonedFor}
+use Rattle.subjects.specs.Subjects.{termsLength, termsAt}
 use Rattle.studies.specs.declared.Wanted.{Wanted}
 use Rattle.arrangements.specs.Arrange.{arrangedFor}
 use Rattle.changes.specs.declared.Newcomer.{Newcomer}
@@ -48,6 +50,12 @@ proposalOf t s =
 
 unfoldable pub checkInput : Terms → List ℕ → Outcome
 checkInput t input = past 12 input (checkedFor (drop 12 input) (proposalOf t input))
+
+-- ---- the reason
+
+-- what Check reads, then the terms
+unfoldable pub reasonInput : List ℕ → Outcome
+reasonInput input = past (12 + termsLength) input (reasonedFor (drop (12 + termsLength) input) (proposalOf (termsAt input 12) input))
 
 -- ---- Arrange
 

@@ -1,15 +1,22 @@
 // From the whole input of a program to its question: what is proposed stands first, the table after it.
 ghost use mathlib.Core.Path.{_≡_};
 ghost use Rattle.desk.specs.Answers.{Answered};
-ghost use Rattle.asking.specs.Asking.{checkInput, arrangeInput, addInput, withdrawInput, moveInput, changeInput, distanceInput, signed, proposalOf, wantedOf, newcomerOf};
+ghost use Rattle.reasons.specs.Reason.{outcomeOf};
+ghost use Rattle.asking.specs.Asking.{checkInput, reasonInput, arrangeInput, addInput, withdrawInput, moveInput, changeInput, distanceInput, signed, proposalOf, wantedOf, newcomerOf};
 ghost use lib.ListN.{length};
 ghost use Prim.Native.Nat.{_+_, _≤_};
 use changes::Newcomer;
 use checks::Proposal;
 use desk::Answer;
 use desk::Site;
+use reasons::Why;
+use refusals::Refusal;
 use studies::Wanted;
+use subjects::TERMS;
 use survey::Terms;
+
+// The bytes of a proposal.
+const PROPOSAL: usize = 12;
 
 // The letters that name a change: `a`, `w`, `m`.
 const ADD: u32 = 97;
@@ -111,6 +118,22 @@ pub fn asked_check(input: &[u8], terms: Terms, rows: &mut [u32]) -> Answer
     }
     let proposed = proposal(input, terms);
     checks::check(&input[12..], proposed, rows)
+}
+
+// Reason: 12 bytes, the terms, and the table.
+pub fn asked_reason(input: &[u8]) -> Why
+    ensures { λ r. ⌜ outcomeOf r ≡ reasonInput (now (input .entry)) ⌝ }
+{
+    if input.len() < PROPOSAL + TERMS {
+        let early = Refusal {
+            number: refusals::UNDER_EIGHT_BYTES,
+            extra: 0,
+        };
+        return Why::Refused(early);
+    }
+    let terms = subjects::terms_at(input, PROPOSAL);
+    let proposed = proposal(input, terms);
+    reasons::answer(&input[PROPOSAL + TERMS..], proposed)
 }
 
 // Arrange, for one new channel: 10 bytes, and the table.

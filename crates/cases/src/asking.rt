@@ -141,7 +141,7 @@ fn aside_id(state: &mut u64, start: u32, n: u32) -> u32
     std::num::wrapping_add_u32(start, 3 * (below(state, 8 * n + 1) / 8))
 }
 
-// The id of a question: to check or arrange, the one left aside; else one of the table, to add one beside it, or 0, or any.
+// The id of a question: to check, arrange or reason, the one left aside; else one of the table, to add one beside it, or 0, or any.
 fn asked_id(state: &mut u64, kind: u32, start: u32, n: u32) -> u32
     requires { ⌜ n ≤ 2001 ⌝ }
 {

@@ -3,12 +3,12 @@ use super::words::Site;
 ghost use Prim.Native.Nat.{_≤_};
 
 // A record's fields.
-pub struct Record {
-    pub id: u32,
-    pub channel: u32,
-    pub class: u32,
-    pub flags: u32,
-    pub site: Site,
+pub(crate) struct Record {
+    pub(crate) id: u32,
+    pub(crate) channel: u32,
+    pub(crate) class: u32,
+    pub(crate) flags: u32,
+    pub(crate) site: Site,
 }
 
 // Where the record at a position starts.
@@ -50,7 +50,7 @@ pub fn put_header(table: &mut [u8], n: u32) {
 }
 
 // Writes the record at a position.
-pub fn put_record(table: &mut [u8], position: usize, record: Record)
+pub(crate) fn put_record(table: &mut [u8], position: usize, record: Record)
     requires { ⌜ position ≤ 2001 ⌝ }
 {
     let at = start_of(position);

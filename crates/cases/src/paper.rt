@@ -21,22 +21,6 @@ pub fn paper_question(kind: u32, first: u32, last: u32, class: u32, lon: u32) ->
     }
 }
 
-// A question of class A in zone I, from a channel to another, on a latitude of the meridian, with an id left aside.
-pub fn aside_question(kind: u32, first: u32, last: u32, lat: u32, id: u32) -> Question {
-    Question {
-        kind,
-        id,
-        channel: first,
-        last,
-        class: 0,
-        zone: 1,
-        lat,
-        lon: 0,
-        lat2: 0,
-        lon2: 0,
-    }
-}
-
 // Writes the table of one station, id 7, at the crossing of equator and meridian.
 pub fn put_seven(table: &mut [u8], channel: u32, class: u32, flags: u32) {
     let record = Record {
@@ -60,6 +44,21 @@ pub fn paper_channel(k: u32) -> u32 {
         4 => 293,
         _ => 294,
     }
+}
+
+// The columns of these differences.
+pub(crate) fn paper_column(k: u32) -> u32 {
+    match k % 6 {
+        0 => 0,
+        1 => 1,
+        2 | 3 => 2,
+        _ => 3,
+    }
+}
+
+// The classes that are held to them: A, and then C.
+pub fn paper_class(k: u32) -> u32 {
+    if k < 6 { 0 } else { 7 }
 }
 
 // The paper's separations for these differences: A to A, and then C to C.

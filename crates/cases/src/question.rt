@@ -13,7 +13,10 @@ pub const CHECK: u32 = 5;
 
 pub const ARRANGE: u32 = 6;
 
-// What is asked: which question, and the numbers of all questions; check and arrange leave the id aside; coordinates are words.
+pub const REASON: u32 = 7;
+
+// What is asked: which question, and the numbers of all questions; check, arrange and reason leave the id aside; coordinates are
+// words.
 pub struct Question {
     pub kind: u32,
     pub id: u32,

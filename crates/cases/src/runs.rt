@@ -9,19 +9,24 @@ use super::question::DISTANCE;
 use super::question::MOVE;
 use super::question::Question;
 use super::question::READ;
+use super::question::REASON;
 use super::question::WITHDRAW;
 use super::tables::AT_LIMITS;
+use super::tables::EQUALS;
 use super::tables::LOW;
 use super::tables::SCATTERED;
 use super::tables::made_table;
 use super::words::Site;
 ghost use Prim.Native.Nat.{_≤_};
 
-// Asked in a run in place of one question: every question on a table but arrange.
-const ALL_BUT_ARRANGE: u32 = 7;
+// Asked in a run in place of one question: every question of 01 on a table but arrange.
+const ALL_BUT_ARRANGE: u32 = 8;
 
-// Asked in a run in place of one question: every question on a table.
-const ALL: u32 = 8;
+// Asked in a run in place of one question: every question of 01 on a table.
+const ALL: u32 = 9;
+
+// How many runs there are.
+pub const RUNS: u32 = 11;
 
 // A run: how many cases, which question, at least how many records and how many more, their style, damaged or not.
 pub struct Run {
@@ -100,7 +105,7 @@ pub fn run_of(k: u32) -> Run {
             damage: true,
         },
         // Full tables, and tables with one record too many.
-        _ => Run {
+        7 => Run {
             cases: 200,
             question: ADD,
             fewest: 1_998,
@@ -108,10 +113,37 @@ pub fn run_of(k: u32) -> Run {
             style: LOW,
             damage: false,
         },
+        // Reasons among equals.
+        8 => Run {
+            cases: 9_000,
+            question: REASON,
+            fewest: 0,
+            more: 16,
+            style: EQUALS,
+            damage: false,
+        },
+        // Reasons in damaged tables.
+        9 => Run {
+            cases: 3_000,
+            question: REASON,
+            fewest: 0,
+            more: 4,
+            style: EQUALS,
+            damage: true,
+        },
+        // Reasons in large tables.
+        _ => Run {
+            cases: 60,
+            question: REASON,
+            fewest: 100,
+            more: 1_900,
+            style: EQUALS,
+            damage: false,
+        },
     }
 }
 
-// The questions on a table in a row.
+// The questions of 01 on a table in a row.
 fn on_table(k: u32) -> u32 {
     match k {
         0 => CHECK,

@@ -24,6 +24,9 @@ pub(crate) const SCATTERED: u32 = 1;
 // Records on channels at or below 220 only.
 pub(crate) const LOW: u32 = 2;
 
+// Records at the limits of what is asked, many of them as far from it as another one.
+pub(crate) const EQUALS: u32 = 3;
+
 // An end of a range, or any place within it.
 fn place_within(state: &mut u64, most: u32) -> u32
     requires { ⌜ most ≤ 2000000 ⌝ }
@@ -158,11 +161,53 @@ fn scattered_record(state: &mut u64, id: u32, channel: u32, from: Record) -> Rec
     }
 }
 
+// A number, or by chance the one as far on the other side of a middle, where that is within low to high.
+fn either_side(state: &mut u64, middle: u32, number: u32, low: u32, high: u32) -> u32 {
+    if once_in(state, 2) {
+        return number;
+    }
+    let twice = std::num::wrapping_add_u32(middle, middle);
+    let other = std::num::wrapping_sub_u32(twice, number);
+    if other < low {
+        return number;
+    }
+    if high < other {
+        return number;
+    }
+    other
+}
+
+// A record as far from what is asked as another one, by channel and by km, and of the same class.
+fn twin_of(state: &mut u64, id: u32, asked: Record, from: Record) -> Record {
+    let channel = either_side(state, asked.channel, from.channel, 201, 300);
+    let seconds = either_side(state, east(asked.site), east(from.site), 0, LONGITUDES);
+    Record {
+        id,
+        channel,
+        class: from.class,
+        flags: any_flags(state),
+        site: site_at(north(from.site), seconds),
+    }
+}
+
+// A twin of another record, but not of what is asked, or a record at the limits of what is asked.
+fn record_among_equals(state: &mut u64, id: u32, asked: Record, from: Record) -> Record {
+    if from.id != asked.id {
+        if once_in(state, 2) {
+            return twin_of(state, id, asked, from);
+        }
+    }
+    record_at_limits(state, id, asked)
+}
+
 // A record of a style, from what is asked or from another record.
 fn made_record(state: &mut u64, id: u32, asked: Record, from: Record, style: u32) -> Record {
     if style == LOW {
         let low = 201 + below(state, 20);
         return scattered_record(state, id, low, from);
+    }
+    if style == EQUALS {
+        return record_among_equals(state, id, asked, from);
     }
     if id == asked.id {
         return record_at_limits(state, id, asked);

@@ -5,9 +5,10 @@ use mathlib.Core.List.{List, map}
 use Rattle.ground.specs.Lists.{keep}
 use Rattle.ground.specs.Rows.{Row, row, flat}
 use Rattle.part73.specs.TableA.{tableA}
-use Rattle.spacing.specs.Pair.{Assignment, assignment, separation, distanceOf}
+use Rattle.spacing.specs.Pair.{Assignment, assignment}
 use Rattle.stations.specs.declared.Station.{Station}
-use Rattle.survey.specs.Ways.{asItStands, near}
+use Rattle.survey.specs.Ways.{near}
+use Rattle.neighbours.specs.Neighbours.{neighbourOf}
 use Rattle.desk.specs.Answers.{Outcome}
 use Rattle.studies.specs.Studies.{study}
 use Rattle.studies.specs.declared.Wanted.{Wanted}
@@ -24,7 +25,7 @@ onOne p =
 
 -- id, D, R of a station, by a table of separations
 unfoldable pub rowOf : (ℕ → ℕ → ℕ → ℕ) → Assignment → Station → Row
-rowOf km p r = row (r .id) (distanceOf p (asItStands r)) (separation km (p .channel) (p .class) (r .channel) (r .class))
+rowOf km p r = let n = neighbourOf km p r in row (n .id) (n .distance) (n .separation)
 
 unfoldable pub shortRows : (ℕ → ℕ → ℕ → ℕ) → Assignment → List Station → List Row
 shortRows km p ss = map (rowOf km p) (keep (near km p) ss)

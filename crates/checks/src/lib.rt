@@ -10,6 +10,7 @@ ghost use Rattle.checks.specs.Positions.{Passed};
 mod writing;
 
 use desk::Answer;
+use nearby::NO_POSITION;
 use spacing::Place;
 use stations::Judged;
 use stations::LIMIT;
@@ -17,9 +18,6 @@ use stations::Verdict;
 use studies::Wanted;
 use survey::Terms;
 use writing::put_noted;
-
-// No position of a table.
-const NO_POSITION: u16 = LIMIT as u16;
 
 // What is proposed: a station of a class on a channel at a site, in a zone; and the id of the record that is left aside, 0 for
 // none.
@@ -50,7 +48,7 @@ fn list(table: &[u8], terms: Terms, channel: usize, place: Place, rows: &mut [u3
 }
 
 // What is wanted of the study: the channel that is proposed alone.
-fn on_one(proposal: Proposal) -> Wanted
+pub fn on_one(proposal: Proposal) -> Wanted
     ensures { λ r. ⌜ r ≡ onOne proposal ⌝ }
 {
     Wanted {

@@ -1,27 +1,16 @@
 // The rows of the noted positions: id, D, R of each.
-ghost use mathlib.Core.Path.{_≡_};
 ghost use mathlib.Core.List.{[], _∷_};
 ghost use lib.ListN.{take};
 ghost use Rattle.ground.specs.Rows.{flat};
 ghost use Rattle.ground.specs.Writing.{Wrote};
-ghost use Rattle.distance.specs.Distance.{S, D};
 ghost use Rattle.part73.specs.TableA.{tableA};
 ghost use Rattle.spacing.specs.Pair.{sited};
-ghost use Rattle.spacing.specs.Reaching.{InRange};
 ghost use Rattle.stations.specs.Image.{stationAt};
+ghost use Rattle.nearby.specs.Positions.{NotedAt};
 ghost use Rattle.checks.specs.Check.{rowOf};
-ghost use Rattle.checks.specs.Positions.{rowsAt, RowAt, RowsAt};
+ghost use Rattle.checks.specs.Positions.{rowsAt, RowAt};
+use neighbours::neighbour_at;
 use spacing::Place;
-
-// D of two sites.
-fn km_between(p: Place, q: Place) -> u32
-    requires { ⌜ (InRange p) × (InRange q) ⌝ }
-    ensures { λ r. ⌜ r ≡ D (S (p .latitude) (p .longitude) (q .latitude) (q .longitude)) ⌝ }
-{
-    let s = spacing::square_between(p, q);
-    let d = distance::rounded_km(s);
-    d as u32
-}
 
 // The row of the record at position i; answers the place after it.
 fn put_station(
@@ -35,14 +24,8 @@ fn put_station(
     requires { ⌜ RowAt (now table) place i at ⌝ }
     ensures { λ r. ⌜ Wrote (flat (rowOf tableA (sited place channel) (stationAt (now (table .entry)) i) ∷ [])) (now (rows .entry)) at (now (rows .exit)) r ⌝ }
 {
-    let r = stations::station_at(table, i);
-    let id = r.id;
-    let c = r.channel as usize;
-    let theirs = survey::place_of(r);
-    let d = km_between(place, theirs);
-    let separation = spacing::separation_of(channel, place.class, c, theirs.class);
-    let required = separation as u32;
-    ground::put_row(rows, at, id, d, required)
+    let n = neighbour_at(table, i, channel, place);
+    ground::put_row(rows, at, n.id, n.distance, n.separation)
 }
 
 // The rows of the first k noted positions, from the buffer's start.
@@ -54,7 +37,7 @@ pub fn put_noted(
     k: usize,
     rows: &mut [u32],
 ) -> usize
-    requires { ⌜ RowsAt (now table) place (now hits) k ⌝ }
+    requires { ⌜ NotedAt (now table) place (now hits) k ⌝ }
     ensures { λ r. ⌜ Wrote (flat (rowsAt (now (table .entry)) (sited place channel) (take k (now (hits .entry))))) (now (rows .entry)) 0 (now (rows .exit)) r ⌝ }
 {
     let mut at: usize = 0;

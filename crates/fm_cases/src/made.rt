@@ -1,5 +1,5 @@
 // Runs of made cases.
-use super::compare::compare;
+use beside::compare;
 use cases::Run;
 use cases::below;
 use cases::case_table;

@@ -1,14 +1,15 @@
 // The paper's cases, with the numbers that it gives.
-use super::compare::compare_all_rows;
-use super::compare::compare_number;
-use super::question::first_rows;
-use super::question::second_number;
-use super::question::second_rows;
+use beside::compare_all_rows;
+use beside::compare_number;
+use beside::first_rows;
+use beside::second_number;
+use beside::second_rows;
 use cases::ARRANGE;
 use cases::CHECK;
 use cases::DISTANCE;
 use cases::Question;
 use cases::paper_channel;
+use cases::paper_class;
 use cases::paper_question;
 use cases::paper_separation;
 use cases::put_header;
@@ -68,7 +69,7 @@ fn short_as(
 
 // Whether one of them is the paper's.
 fn separation_as(k: u32, notes: &mut Notes) -> bool {
-    let class = if k < 6 { 0 } else { 7 };
+    let class = paper_class(k);
     let row = Row {
         a: 7,
         b: 0,

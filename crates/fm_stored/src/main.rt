@@ -29,6 +29,9 @@ fn run(name: &[u8], fd: i32) {
     if begins(name, b"study-") {
         programs::run(programs::Program::Study, fd);
     }
+    if begins(name, b"reason-") {
+        programs::run(programs::Program::Reason, fd);
+    }
 }
 
 // The argument at a place: its name, and what the program writes.

@@ -27,8 +27,10 @@ use Rattle.studies.specs.declared.Wanted.{Wanted}
 use Rattle.changes.specs.Changes.{Change, add, withdraw, move, Decision, allow, refuse, onVerdict, decide, written, changedFor}
 use Rattle.checks.specs.Check.{checkedFor}
 use Rattle.checks.specs.declared.Proposal.{Proposal}
+use Rattle.reasons.specs.Reason.{beginsAt, reasonedFor}
 use Rattle.arrangements.specs.Arrange.{arrangedFor}
 use Rattle.fms.specs.Packed.{Says, Numbered, granted, refused}
+use Rattle.fms.specs.Reason.{located}
 
 -- ---- a verdict
 
@@ -169,6 +171,15 @@ numbered-check s p room = answered room (comes-study s _ _)
 pub numbered-arrange : (s : List ℕ) (w : Wanted) (room : ℕ) → Numbered (answer (arrangedFor s w) room)
 unfolding arrangedFor
 numbered-arrange s w room = answered room (comes-study s _ _)
+
+pub numbered-reason : (s : List ℕ) (p : Proposal) → Numbered (located s (reasonedFor s p))
+unfolding reasonedFor
+numbered-reason s p = go (comes-study s _ _)
+  where
+    go : {o : Outcome} → Comes o → Numbered (located s o)
+    go (given-out []) = granted 0
+    go (given-out (v ∷ vs)) = granted (beginsAt s v)
+    go (denied f) = refused f
 
 numbered-count : {j : Judged} → Told j → Numbered (countOf j)
 numbered-count (table n) = granted n

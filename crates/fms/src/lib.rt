@@ -6,10 +6,15 @@ ghost use Rattle.changes.specs.Changes.{add as adding, withdraw as withdrawing,
 ghost use Rattle.fms.specs.Packed.{Says, Packed, newcomer as asked, proposal, wanted};
 ghost use Rattle.checks.specs.Check.{checkedFor};
 ghost use Rattle.arrangements.specs.Arrange.{arrangedFor};
+ghost use lib.Seq.{sets};
+ghost use Rattle.reasons.specs.Reason.{reasonedFor, outcomeOf};
+ghost use Rattle.reasons.specs.Inside.{Names};
+ghost use Rattle.fms.specs.Reason.{located, granted, Explained};
 use changes::Newcomer;
 use checks::Proposal;
 use desk::Answer;
 use desk::Site;
+use reasons::Why;
 use studies::Wanted;
 
 fn pack(a: Answer) -> u64
@@ -141,5 +146,60 @@ pub extern "C" fn fms_arrange(
         aside,
     };
     let a = arrangements::arrange(table, asked, rows);
+    pack(a)
+}
+
+// Where the station that is named begins in the table; 0 where none is.
+fn locate(table: &[u8], why: Why) -> Answer
+    requires { ⌜ Names (now table) why ⌝ }
+    ensures { λ r. ⌜ r ≡ located (now (table .entry)) (outcomeOf why) ⌝ }
+{
+    match why {
+        Why::Clear => Answer::Granted(0),
+        Why::Blocked(n) => {
+            let at = reasons::begins_at(table, n.id);
+            Answer::Granted(at as u32)
+        }
+        Why::Refused(f) => Answer::Refused(f),
+    }
+}
+
+// Its four numbers.
+fn put_why(why: Why, reason: &mut [u32; 4])
+    ensures { λ _. ⌜ now (reason .exit) ≡ sets (now (reason .entry)) 0 (granted (outcomeOf why)) ⌝ }
+{
+    let Why::Blocked(n) = why else {
+        return;
+    };
+    reason[0] = n.id;
+    reason[1] = n.distance;
+    reason[2] = n.separation;
+    reason[3] = n.column;
+}
+
+#[no_mangle]
+pub extern "C" fn fms_reason(
+    table: &[u8],
+    channel: u32,
+    class: u32,
+    zone: u32,
+    lat: i32,
+    lon: i32,
+    aside: u32,
+    reason: &mut [u32; 4],
+) -> u64
+    ensures { λ r. ⌜ Explained (now (table .entry)) (reasonedFor (now (table .entry)) (proposal channel class zone lat lon aside)) (now (reason .entry)) (now (reason .exit)) r ⌝ }
+{
+    let proposed = Proposal {
+        channel,
+        class,
+        zone,
+        latitude: lat,
+        longitude: lon,
+        aside,
+    };
+    let why = reasons::answer(table, proposed);
+    put_why(why, reason);
+    let a = locate(table, why);
     pack(a)
 }

@@ -1,4 +1,4 @@
--- 01, The programs: the lines that a program prints, as bytes. Assumes nothing.
+-- 01, The programs; 02, R-2: the lines that a program prints, as bytes. Assumes nothing.
 use mathlib.Core.Bool.{cond}
 use mathlib.Core.List.{List, [], _∷_, _++_}
 use Prim.Native.Nat.{ℕ, zero, suc, _+_, _*_, _/_, _%_}
@@ -29,6 +29,16 @@ ended n = numberThen n 10
 -- `id D R`; `channel id moved`
 unfoldable pub rowLine : ℕ → ℕ → ℕ → List ℕ
 rowLine a b c = spaced a ++ (spaced b ++ ended c)
+
+-- `id D R column`: numbers, on one line
+unfoldable pub numbersLine : List ℕ → List ℕ
+numbersLine [] = []
+numbersLine (a ∷ []) = ended a
+numbersLine (a ∷ b ∷ vs) = spaced a ++ numbersLine (b ∷ vs)
+
+-- `clear`
+unfoldable pub clearLine : List ℕ
+clearLine = 99 ∷ 108 ∷ 101 ∷ 97 ∷ 114 ∷ 10 ∷ []
 
 -- `short K`
 unfoldable pub shortLine : ℕ → List ℕ

@@ -1,13 +1,16 @@
 // Lines of decimal numbers, put into a buffer of bytes.
 ghost use Prim.Native.Nat.{_+_, _-_, _*_, _≤_};
 ghost use lib.ListN.{length};
+ghost use mathlib.Core.List.{[], _∷_};
 ghost use Rattle.ground.specs.Lists.{span, each};
 ghost use Rattle.ground.specs.Writing.{Wrote};
-ghost use Rattle.lines.specs.Lines.{numberThen, ended, rowLine, shortLine, refusedLine, lineAt};
+ghost use Rattle.lines.specs.Lines.{numberThen, ended, rowLine, numbersLine, clearLine, shortLine, refusedLine, lineAt};
 use refusals::Refusal;
 
-// The longest line: three numbers of ten digits, and the byte after each.
+// The longest line of three numbers of ten digits, and the byte after each; and that of four.
 pub const LINE: usize = 33;
+
+pub const REASON_LINE: usize = 44;
 
 // A word; answers the place after it.
 fn put_word(text: &mut [u8], at: usize, word: &[u8]) -> usize
@@ -50,6 +53,25 @@ fn put_numbers(text: &mut [u8], at: usize, a: u32, b: u32, c: u32) -> usize
     let second = put_number(text, at, a, b' ');
     let third = put_number(text, second, b, b' ');
     put_number(text, third, c, b'\n')
+}
+
+// A line of four numbers.
+pub fn put_reason(text: &mut [u8], at: usize, a: u32, b: u32, c: u32, d: u32) -> usize
+    requires { ⌜ at + 44 ≤ length (now text) ⌝ }
+    ensures { λ r. ⌜ Wrote (numbersLine (a ∷ b ∷ c ∷ d ∷ [])) (now (text .entry)) at (now (text .exit)) r ⌝ }
+    ensures { λ r. ⌜ r ≤ at + 44 ⌝ }
+{
+    let rest = put_number(text, at, a, b' ');
+    put_numbers(text, rest, b, c, d)
+}
+
+// The line `clear`.
+pub fn put_clear(text: &mut [u8], at: usize) -> usize
+    requires { ⌜ at + 33 ≤ length (now text) ⌝ }
+    ensures { λ r. ⌜ Wrote clearLine (now (text .entry)) at (now (text .exit)) r ⌝ }
+    ensures { λ r. ⌜ r ≤ at + 33 ⌝ }
+{
+    put_word(text, at, b"clear\n")
 }
 
 // The lines of the rows from one to before another.

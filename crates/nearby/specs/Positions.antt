@@ -71,3 +71,11 @@ pub record Noted (vs hits : List ℕ) (k : ℕ) : Type 0 where
   pub long : length hits ≡ limit
   pub many : k ≡ length vs
   pub holds : take k hits ≡ vs
+
+-- what a walk over the first k places asks, for a class at a site: each holds a position of the table
+pub record NotedAt (s : List ℕ) (p : Place) (hits : List ℕ) (k : ℕ) : Type 0 where
+  pub accepted : Accepted s
+  pub placed : InRange p
+  pub long : length hits ≡ limit
+  pub few : k ≤ limit
+  pub each-one : (t : ℕ) → t < k → getD hits t 0 < count s

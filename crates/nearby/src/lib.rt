@@ -13,6 +13,9 @@ use spacing::Limits;
 use spacing::Place;
 use survey::Terms;
 
+// No position of a table.
+pub const NO_POSITION: u16 = stations::LIMIT as u16;
+
 // The first position from one on whose record is looked at and the station is short to; the count where there is none.
 pub fn next_short(
     table: &[u8],

@@ -22,9 +22,9 @@ use Rattle.lines.specs.Lines.{rowLine, refusedLine}
 use Rattle.asking.specs.Asking.{wantedOf, arrangeInput}
 use Rattle.asking.proofs.Fitting.{one-channel}
 use Rattle.asking.proofs.OneByOne.{rowsOf, regrant, alike}
-use Rattle.telling.specs.Texts.{linesText}
+use Rattle.telling.specs.Texts.{printed, linesText}
 use Rattle.programs.specs.OneChannel.{channelText, isDenied}
-use Rattle.programs.specs.Printed.{printed, printedArrange}
+use Rattle.programs.specs.Printed.{printedArrange}
 
 -- ---- the lines of rows, as records
 

@@ -11,12 +11,12 @@ use Rattle.survey.specs.declared.Terms.{Terms}
 use Rattle.subjects.specs.Subjects.{afterTerms, subjectOf}
 use Rattle.subjects.specs.declared.Subject.{Subject}
 use Rattle.subjects.specs.declared.Subject.the-variants.{Check as Check′, Arrange as Arrange′, Distance}
-use Rattle.asking.proofs.Longer.{most, enough, read-check, read-arrange, read-change, read-distance}
+use Rattle.asking.proofs.Longer.{most, enough, read-check, read-reason, read-arrange, read-change, read-distance}
 use Rattle.subjects.proofs.Subjects.{first-bytes}
-use Rattle.telling.specs.Texts.{linesText, shortText, imageText, distanceText}
-use Rattle.programs.specs.Printed.{printed, printedCheck, printedArrange, printedChange, printedDistance, printedAs, printedStudy, printedBy}
+use Rattle.telling.specs.Texts.{printed, linesText, shortText, reasonText, imageText, distanceText}
+use Rattle.programs.specs.Printed.{printedCheck, printedArrange, printedChange, printedReason, printedDistance, printedAs, printedStudy, printedBy}
 use Rattle.programs.specs.declared.Program.{Program}
-use Rattle.programs.specs.declared.Program.the-variants.{Check, Arrange, Change, Study}
+use Rattle.programs.specs.declared.Program.the-variants.{Check, Arrange, Change, Study, Reason}
 
 module _ (m : ℕ) (g : enough ≤ m) where
   check-read : (t : Terms) (input : List ℕ) → printedCheck t (take m input) ≡ printedCheck t input
@@ -42,10 +42,11 @@ study-read (Arrange′ t) input h = ap (printedArrange t) (after afterTerms 6553
 study-read Distance input h = distance-read most (omega arith) input
 
 pub as-read : (program : Program) (input : List ℕ) → printedBy program (take most input) ≡ printedBy program input
-unfolding printedBy printedChange printedStudy
+unfolding printedBy printedChange printedReason printedStudy
 as-read Check input = check-read most (omega arith) _ input
 as-read Arrange input = arrange-read most (omega arith) _ input
 as-read Change input = ap (printed imageText) (read-change most (omega arith) input)
+as-read Reason input = ap (printed reasonText) (read-reason most (omega arith) input)
 as-read Study input = elim (decLt most (length input)) [
   | yes h ↦ ap (λ (x : Subject). printedAs x (take most input)) (first-bytes most (omega arith) input (omega arith)) ∙ study-read (subjectOf input) input h
   | no n ↦ ap printedStudy (take-all most input (omega arith))

@@ -18,16 +18,16 @@ use Rattle.desk.specs.Answers.{Outcome, grant, deny, Answered}
 use Rattle.desk.specs.declared.Answer.{Answer}
 use Rattle.desk.specs.declared.Answer.the-variants.{Granted, Refused}
 use Rattle.wire.specs.Be.{be}
-use Rattle.asking.specs.Asking.{past, checkInput, arrangeInput, changeInput, distanceInput}
+use Rattle.asking.specs.Asking.{past, checkInput, reasonInput, arrangeInput, changeInput, distanceInput}
 use Rattle.subjects.specs.Subjects.{afterTerms, subjectOf}
 use Rattle.subjects.specs.declared.Subject.{Subject}
 use Rattle.subjects.specs.declared.Subject.the-variants.{Check as Check′, Arrange as Arrange′}
 use Rattle.subjects.proofs.Subjects.{other-letter}
 use Rattle.asking.proofs.Fitting.{check-fits, arrange-fits, change-fits}
-use Rattle.telling.specs.Texts.{linesText, shortText, imageText, distanceText}
+use Rattle.telling.specs.Texts.{printed, linesText, shortText, imageText, distanceText}
 use Rattle.telling.specs.Told.{told, isRefused}
 use Rattle.programs.specs.OneChannel.{channelText, isDenied}
-use Rattle.programs.specs.Printed.{printed, printedCheck, printedArrange, printedChange, printedDistance, printedAs, printedStudy, printedBy}
+use Rattle.programs.specs.Printed.{printedCheck, printedArrange, printedChange, printedReason, printedDistance, printedAs, printedStudy, printedBy}
 use Rattle.programs.specs.declared.Program.the-variants.{Check, Arrange}
 
 -- an outcome that fits the room that was lent for it
@@ -102,3 +102,10 @@ study-early-check input e h = sym (study-printed input e) ∙ ends-early 12 shor
 pub study-early-arrange : (input : List ℕ) {t : Terms} → subjectOf input ≡ Arrange′ t → length input < 15 → printedStudy input ≡ refusedLine (refusal UnderEightBytes)
 unfolding printedArrange arrangeInput
 study-early-arrange input e h = sym (study-printed input e) ∙ ends-early 10 linesText input _ (omega arith) (omega arith)
+
+-- ---- the reason
+
+-- input that ends before the table: 12 bytes and the terms
+pub reason-early : (input : List ℕ) → length input < 16 → printedReason input ≡ refusedLine (refusal UnderEightBytes)
+unfolding printedReason reasonInput past given
+reason-early input h = rw (lt-ltb (length input) 16 h)

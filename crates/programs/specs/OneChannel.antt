@@ -5,8 +5,7 @@ use Prim.Native.Nat.{ℕ}
 use Rattle.desk.specs.Answers.{Outcome, grant, deny}
 use Rattle.survey.specs.declared.Terms.{Terms}
 use Rattle.asking.specs.Asking.{arrangeInput}
-use Rattle.telling.specs.Texts.{linesText}
-use Rattle.programs.specs.Printed.{printed}
+use Rattle.telling.specs.Texts.{printed, linesText}
 
 unfoldable pub channelText : Terms → List ℕ → ℕ → List ℕ
 channelText t input c = printed linesText (arrangeInput c c t input)

@@ -1,27 +1,24 @@
--- 01, The programs; 02, R-1: all that a program prints, as one list of bytes, from its whole input. Assumes nothing.
+-- 01, The programs; 02, R-1, R-2: all that a program prints, as one list of bytes, from its whole input. Assumes nothing.
 use mathlib.Core.List.{List}
 use Prim.Native.Nat.{ℕ}
 use lib.ListN.{drop}
 use Rattle.survey.specs.declared.Terms.{Terms}
-use Rattle.desk.specs.Answers.{Outcome, grant, deny}
-use Rattle.lines.specs.Lines.{refusedLine}
 use Rattle.part73.specs.Channels.{lowest, highest}
-use Rattle.asking.specs.Asking.{plain, checkInput, arrangeInput, changeInput, distanceInput}
+use Rattle.asking.specs.Asking.{plain, checkInput, reasonInput, arrangeInput, changeInput, distanceInput}
 use Rattle.subjects.specs.Subjects.{afterTerms, subjectOf}
 use Rattle.subjects.specs.declared.Subject.{Subject}
 use Rattle.subjects.specs.declared.Subject.the-variants.{Check as Check′, Arrange as Arrange′, Distance}
 use Rattle.programs.specs.declared.Program.{Program}
-use Rattle.programs.specs.declared.Program.the-variants.{Check, Arrange, Change, Study}
-use Rattle.telling.specs.Texts.{linesText, shortText, imageText, distanceText}
-
--- the text of all that is granted; of a refusal, its one line
-abbrev pub printed : (List ℕ → List ℕ) → Outcome → List ℕ
-printed text (grant vs) = text vs
-printed text (deny f) = refusedLine f
+use Rattle.programs.specs.declared.Program.the-variants.{Check, Arrange, Change, Study, Reason}
+use Rattle.telling.specs.Texts.{printed, linesText, shortText, reasonText, imageText, distanceText}
 
 -- `short K`, and K lines
 unfoldable pub printedCheck : Terms → List ℕ → List ℕ
 printedCheck t input = printed shortText (checkInput t input)
+
+-- `clear`, or `id D R column`
+unfoldable pub printedReason : List ℕ → List ℕ
+printedReason input = printed reasonText (reasonInput input)
 
 -- the lines of all arrangements on the new channels from 221 to 300
 unfoldable pub printedArrange : Terms → List ℕ → List ℕ
@@ -49,3 +46,4 @@ printedBy Check = printedCheck plain
 printedBy Arrange = printedArrange plain
 printedBy Change = printedChange
 printedBy Study = printedStudy
+printedBy Reason = printedReason

@@ -7,13 +7,15 @@ ghost use Rattle.part73.specs.Channels.{channelCount};
 ghost use Rattle.asking.specs.Asking.{arrangeInput};
 ghost use Rattle.streams.specs.Tells.{Tells};
 ghost use Rattle.programs.specs.OneChannel.{channelText, isDenied};
-ghost use Rattle.programs.specs.Printed.{printedCheck, printedArrange, printedChange, printedDistance, printedStudy, printedBy};
+ghost use Rattle.programs.specs.Printed.{printedCheck, printedArrange, printedChange, printedDistance, printedStudy, printedReason, printedBy};
 ghost use Rattle.programs.specs.Ran.{Ran};
 use asking::asked_arrange;
 use asking::asked_change;
 use asking::asked_check;
 use asking::asked_distance;
+use asking::asked_reason;
 use lines::LINE;
+use lines::REASON_LINE;
 use part73::CHANNEL_COUNT;
 use part73::HIGHEST_ASKED;
 use part73::LOWEST_ASKED;
@@ -28,6 +30,7 @@ use telling::put_answer;
 use telling::tell_change;
 use telling::tell_check;
 use telling::tell_distance;
+use telling::tell_reason;
 
 // What a program asks.
 pub enum Program {
@@ -35,6 +38,7 @@ pub enum Program {
     Arrange,
     Change,
     Study,
+    Reason,
 }
 
 // The most rows for one new channel: one station may go to all channels but its own.
@@ -130,6 +134,15 @@ fn study(input: &[u8], mark: &mut usize) -> bool
     }
 }
 
+// The reason, on its input.
+fn reason(input: &[u8], mark: &mut usize) -> bool
+    ensures { λ r. ⌜ Tells (printedReason (now (input .entry))) (now (mark .entry)) (now (mark .exit)) r ⌝ }
+{
+    let mut text = [0u8; REASON_LINE];
+    let why = asked_reason(input);
+    tell_reason(&mut text, why, mark)
+}
+
 // The program that is named, on its input.
 fn tell(program: Program, input: &[u8], mark: &mut usize) -> bool
     ensures { λ r. ⌜ Tells (printedBy program (now (input .entry))) (now (mark .entry)) (now (mark .exit)) r ⌝ }
@@ -139,6 +152,7 @@ fn tell(program: Program, input: &[u8], mark: &mut usize) -> bool
         Program::Arrange => arrange(input, PLAIN, mark),
         Program::Change => change(input, mark),
         Program::Study => study(input, mark),
+        Program::Reason => reason(input, mark),
     }
 }
 

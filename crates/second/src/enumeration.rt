@@ -1,18 +1,16 @@
 // The question arrange, by plain enumeration.
-use super::answer::ID_ABSENT;
 use super::answer::NO_ROOM;
 use super::answer::refused;
-use super::judgement::judge;
 use super::pairs::first_short;
 use super::pairs::short;
 use super::proposal::fault;
 use super::proposal::proposed;
 use super::records::Station;
-use super::records::absent;
 use super::records::movable;
 use super::records::on_channel;
 use super::records::station_at;
 use super::rows::put_row;
+use super::study::judge_study;
 ghost use Prim.Native.Nat.{_+_, _≤_, _<_};
 ghost use Rattle.second.specs.Answer.{Packed};
 
@@ -179,19 +177,13 @@ pub fn arrange(
 ) -> u64
     ensures { λ r. do ⌜ Packed (← ⟦rows.len()⟧ .entry) r ⌝ }
 {
-    let judged = judge(table);
+    let wrong = fault(first, last, class, zone, lat, lon);
+    let judged = judge_study(table, wrong, aside);
     let number = judged.number;
     if number != 0 {
         return refused(number, judged.extra);
     }
     let n = judged.stations;
-    let wrong = fault(first, last, class, zone, lat, lon);
-    if wrong != 0 {
-        return refused(wrong, 0);
-    }
-    if absent(table, n, aside as u64) {
-        return refused(ID_ABSENT, 0);
-    }
     let new = proposed(aside, first, class, lat, lon);
     let need = count_arrange(table, n, first as u64, last as u64, new);
     if rows.len() < need {

@@ -99,8 +99,8 @@ pub(crate) struct Judged {
     pub(crate) stations: usize,
 }
 
-// The judgement of a table refused as a whole.
-fn unfit(number: u64) -> Judged
+// A refusal without an extra number, as a judgement.
+pub(crate) fn unfit(number: u64) -> Judged
     ensures { λ r. ⌜ (r .number ≤ number) × (r .stations ≤ 2000) ⌝ }
 {
     Judged {

@@ -1,5 +1,5 @@
-// The seven questions of the desk a second time: plain enumeration, numbers as sign and size, D by search.
-// An answer below 2^32 is granted (a count, or D); any other is a refusal's number times 2^32 plus its extra number.
+// The eight questions of the desk a second time: plain enumeration, numbers as sign and size, D by search.
+// An answer below 2^32 is granted (a count, D, or a place); any other is a refusal's number times 2^32 plus its extra number.
 mod answer;
 mod big_endian;
 mod editing;
@@ -9,9 +9,11 @@ mod judgement;
 mod pairs;
 mod proposal;
 mod reading;
+mod reasoning;
 mod records;
 mod rows;
 mod shortness;
+mod study;
 
 pub use editing::add;
 pub use editing::move_to;
@@ -19,4 +21,5 @@ pub use editing::withdraw;
 pub use enumeration::arrange;
 pub use reading::distance;
 pub use reading::read;
+pub use reasoning::reason;
 pub use shortness::check;

@@ -5,13 +5,32 @@ use second_rule::kilometres;
 use second_rule::separation;
 ghost use Prim.Native.Nat.{_≤_};
 
+// R of two stations, 0 where there is no requirement.
+pub(crate) fn required(a: Station, b: Station) -> u64 {
+    separation(a.channel, a.class, b.channel, b.class)
+}
+
+// D of two stations.
+pub(crate) fn apart(a: Station, b: Station) -> u64 {
+    kilometres(a.north, a.east, b.north, b.east)
+}
+
+// By how many km two stations are short, R - D; 0 where they are not.
+pub(crate) fn shortfall(a: Station, b: Station) -> u64 {
+    let r = required(a, b);
+    if r == 0 {
+        return 0;
+    }
+    let d = apart(a, b);
+    if r <= d {
+        return 0;
+    }
+    r - d
+}
+
 // Whether two stations are short: D below R.
 pub(crate) fn short(a: Station, b: Station) -> bool {
-    let r = separation(a.channel, a.class, b.channel, b.class);
-    if r == 0 {
-        return false;
-    }
-    kilometres(a.north, a.east, b.north, b.east) < r
+    0 < shortfall(a, b)
 }
 
 // Whether a station is in the way of the given one: it has neither that one's id nor the id left aside, and is short to it.

@@ -3,9 +3,9 @@ use super::answer::ASKED_SITE;
 use super::answer::TOO_FAR;
 use super::answer::refused;
 use super::judgement::judge;
+use super::pairs::apart;
 use super::proposal::out_of_range;
 use super::proposal::proposed;
-use second_rule::kilometres;
 ghost use Rattle.second.specs.Answer.{Packed};
 
 // The number of stations of a table, or its refusal.
@@ -32,7 +32,7 @@ pub fn distance(lat1: i32, lon1: i32, lat2: i32, lon2: i32) -> u64
     }
     let a = proposed(0, 0, 0, lat1, lon1);
     let b = proposed(0, 0, 0, lat2, lon2);
-    let d = kilometres(a.north, a.east, b.north, b.east);
+    let d = apart(a, b);
     if 475 < d {
         return refused(TOO_FAR, 0);
     }

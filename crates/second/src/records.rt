@@ -4,8 +4,8 @@ use super::big_endian::one;
 use super::big_endian::two;
 ghost use Prim.Native.Nat.{_≤_, _<_};
 
-// A station or a proposal; the site counts from the southern and the western end of its range. What is proposed to check or arrange
-// has the id of the station left aside, 0 for none.
+// A station or a proposal; the site counts from the southern and the western end of its range. What is proposed to check, arrange
+// or reason has the id of the station left aside, 0 for none.
 pub(crate) struct Station {
     pub(crate) id: u64,
     pub(crate) channel: u64,

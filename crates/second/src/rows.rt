@@ -3,7 +3,7 @@ ghost use mathlib.Core.Path.{_≡_};
 ghost use Prim.Native.Nat.{_+_, _≤_};
 
 // Writes the lowest 32 bits where there is room.
-fn put(rows: &mut [u32], at: usize, value: u64) {
+pub(crate) fn put(rows: &mut [u32], at: usize, value: u64) {
     if at < rows.len() {
         rows[at] = (value % 4_294_967_296) as u32;
     }

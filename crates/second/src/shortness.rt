@@ -1,16 +1,15 @@
 // The question check.
-use super::answer::ID_ABSENT;
 use super::answer::NO_ROOM;
 use super::answer::refused;
-use super::judgement::judge;
+use super::pairs::apart;
+use super::pairs::required;
+use super::pairs::short;
 use super::proposal::fault;
 use super::proposal::proposed;
 use super::records::Station;
-use super::records::absent;
 use super::records::station_at;
 use super::rows::put_row;
-use second_rule::kilometres;
-use second_rule::separation;
+use super::study::judge_study;
 ghost use Prim.Native.Nat.{_+_, _≤_};
 ghost use Rattle.second.specs.Answer.{Packed};
 
@@ -22,15 +21,10 @@ fn put_short(new: Station, s: Station, rows: &mut [u32], at: usize) -> usize
     if s.id == new.id {
         return at;
     }
-    let r = separation(new.channel, new.class, s.channel, s.class);
-    if r == 0 {
+    if !short(new, s) {
         return at;
     }
-    let d = kilometres(new.north, new.east, s.north, s.east);
-    if r <= d {
-        return at;
-    }
-    put_row(rows, at, s.id, d, r)
+    put_row(rows, at, s.id, apart(new, s), required(new, s))
 }
 
 // Writes the rows of all short stations where there is room, and gives how many numbers they are.
@@ -69,19 +63,13 @@ pub fn check(
 ) -> u64
     ensures { λ r. do ⌜ Packed (← ⟦rows.len()⟧ .entry) r ⌝ }
 {
-    let judged = judge(table);
+    let wrong = fault(channel, channel, class, zone, lat, lon);
+    let judged = judge_study(table, wrong, aside);
     let number = judged.number;
     if number != 0 {
         return refused(number, judged.extra);
     }
     let n = judged.stations;
-    let wrong = fault(channel, channel, class, zone, lat, lon);
-    if wrong != 0 {
-        return refused(wrong, 0);
-    }
-    if absent(table, n, aside as u64) {
-        return refused(ID_ABSENT, 0);
-    }
     let new = proposed(aside, channel, class, lat, lon);
     let need = count_check(table, n, new);
     if rows.len() < need {

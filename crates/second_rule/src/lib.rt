@@ -7,4 +7,5 @@ mod table_a;
 pub use sites::LATITUDES;
 pub use sites::LONGITUDES;
 pub use sites::kilometres;
+pub use table_a::column;
 pub use table_a::separation;

@@ -103,13 +103,24 @@ fn relation(a: u64, b: u64) -> u64 {
     ordered(b, a)
 }
 
-// What the separation for a channel difference is counted in within its four; 0 where there is no requirement.
-fn column(difference: u64) -> u64 {
-    match difference {
+// The column of two channels, 0 to 3 from the left; 4 where there is no requirement.
+pub fn column(channel1: u64, channel2: u64) -> u64 {
+    match apart(channel1, channel2) {
+        0 => 0,
+        1 => 1,
+        2 | 3 => 2,
+        53 | 54 => 3,
+        _ => 4,
+    }
+}
+
+// What a column's separation is counted in within the four; 0 where there is no requirement.
+fn unit_of(column: u64) -> u64 {
+    match column {
         0 => 1_000_000_000,
         1 => 1_000_000,
-        2 | 3 => 1_000,
-        53 | 54 => 1,
+        2 => 1_000,
+        3 => 1,
         _ => 0,
     }
 }
@@ -123,7 +134,7 @@ pub fn separation(channel1: u64, class1: u64, channel2: u64, class2: u64) -> u64
             return 0;
         }
     }
-    let unit = column(apart(channel1, channel2));
+    let unit = unit_of(column(channel1, channel2));
     if unit == 0 {
         return 0;
     }

@@ -1,6 +1,6 @@
--- 02, R-1: what an input of `fm_study` asks. Assumes nothing.
+-- 02, R-1: what an input of `fm_study` asks, and the terms of a study in a program's input. Assumes nothing.
 use mathlib.Core.List.{List}
-use Prim.Native.Nat.{ℕ}
+use Prim.Native.Nat.{ℕ, _+_}
 use lib.Dec.{eqb, ltb}
 use lib.ListN.{length}
 use Rattle.ground.specs.Guard.{given}
@@ -9,18 +9,21 @@ use Rattle.survey.specs.declared.Terms.{Terms}
 use Rattle.subjects.specs.declared.Subject.{Subject}
 use Rattle.subjects.specs.declared.Subject.the-variants.{Check, Arrange, Distance}
 
--- the terms, after the letter: id 32
-abbrev pub termsIn : List ℕ → Terms
-termsIn s = record { aside = be 4 s 1 }
+-- the terms from a place on: id 32
+abbrev pub termsAt : List ℕ → ℕ → Terms
+termsAt s at = record { aside = be 4 s at }
 
--- how many bytes letter and terms take
+-- how many bytes terms take, and letter and terms
+abbrev pub termsLength : ℕ
+termsLength = 4
+
 abbrev pub afterTerms : ℕ
-afterTerms = 5
+afterTerms = 1 + termsLength
 
 -- the letter `c` or `a`, and terms: then follows what `fm_check` or `fm_arrange` reads. All else is put as a distance
 unfoldable pub subjectOf : List ℕ → Subject
 subjectOf input =
     given (ltb (length input) afterTerms) Distance
-    (given (eqb (be 1 input 0) 99) (Check (termsIn input))
-    (given (eqb (be 1 input 0) 97) (Arrange (termsIn input))
+    (given (eqb (be 1 input 0) 99) (Check (termsAt input 1))
+    (given (eqb (be 1 input 0) 97) (Arrange (termsAt input 1))
     Distance))

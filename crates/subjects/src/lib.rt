@@ -1,8 +1,8 @@
 // What an input of `fm_study` asks: its letter, and the terms after it.
 ghost use mathlib.Core.Path.{_≡_};
-ghost use Prim.Native.Nat.{_≤_};
+ghost use Prim.Native.Nat.{_+_, _≤_};
 ghost use lib.ListN.{length};
-ghost use Rattle.subjects.specs.Subjects.{afterTerms, termsIn, subjectOf};
+ghost use Rattle.subjects.specs.Subjects.{termsLength, termsAt, subjectOf};
 use survey::Terms;
 
 // The letters that name a question about a table: `c` and `a`.
@@ -10,8 +10,10 @@ const CHECK: u32 = 99;
 
 const ARRANGE: u32 = 97;
 
-// How many bytes a letter and terms take.
-pub const AFTER_TERMS: usize = 5;
+// How many bytes terms take, and a letter and terms.
+pub const TERMS: usize = 4;
+
+pub const AFTER_TERMS: usize = 1 + TERMS;
 
 // What is studied, and on which terms.
 pub enum Subject {
@@ -20,12 +22,12 @@ pub enum Subject {
     Distance,
 }
 
-// The terms of a study, after its letter: the id left aside.
-fn terms_in(input: &[u8]) -> Terms
-    requires { ⌜ afterTerms ≤ length (now input) ⌝ }
-    ensures { λ r. ⌜ r ≡ termsIn (now (input .entry)) ⌝ }
+// The terms of a study, from a place on: the id left aside.
+pub fn terms_at(input: &[u8], at: usize) -> Terms
+    requires { ⌜ at + termsLength ≤ length (now input) ⌝ }
+    ensures { λ r. ⌜ r ≡ termsAt (now (input .entry)) at ⌝ }
 {
-    let aside = wire::get32(input, 1);
+    let aside = wire::get32(input, at);
     Terms { aside }
 }
 
@@ -39,11 +41,11 @@ pub fn subject_of(input: &[u8]) -> Subject
     }
     let letter = wire::get8(input, 0);
     if letter == CHECK {
-        let terms = terms_in(input);
+        let terms = terms_at(input, 1);
         return Subject::Check(terms);
     }
     if letter == ARRANGE {
-        let terms = terms_in(input);
+        let terms = terms_at(input, 1);
         return Subject::Arrange(terms);
     }
     Subject::Distance

@@ -3,15 +3,28 @@ use cases::ADD;
 use cases::DISTANCE;
 use cases::MOVE;
 use cases::READ;
+use cases::REASON;
+use cases::SEED;
 use cases::WITHDRAW;
 use cases::mixed;
 ghost use Prim.Native.Nat.{_≤_, _<_};
 
-// The counts, of 26 numbers (0 where it is granted) for each of seven questions; and behind them the digest.
-pub type Notes = [u64; 183];
+// The counts, of 26 numbers (0 where it is granted) for each of eight questions; behind them those of the reasons, clear and by
+// column; and behind these the digest.
+pub type Notes = [u64; 214];
+
+// Where the counts of the reasons start.
+pub(crate) const WAYS: usize = 208;
 
 // Where the digest stands.
-pub const DIGEST: usize = 182;
+const DIGEST: usize = 213;
+
+// Notes before the first question.
+pub fn fresh_notes() -> Notes {
+    let mut notes = [0u64; 214];
+    notes[DIGEST] = SEED;
+    notes
+}
 
 // Mixes a number into the digest.
 pub(crate) fn mix(notes: &mut Notes, value: u64) {
@@ -32,15 +45,21 @@ pub(crate) fn extra_of(answer: u64) -> u64
 
 // Where the count of a question's answers with a number stands.
 fn place(kind: u32, number: u64) -> usize
-    ensures { λ r. ⌜ r < 182 ⌝ }
+    ensures { λ r. ⌜ r < 208 ⌝ }
 {
-    ((kind % 7) * 26) as usize + (number % 26) as usize
+    ((kind % 8) * 26) as usize + (number % 26) as usize
+}
+
+// Adds one to the count at a place.
+pub(crate) fn count_one(notes: &mut Notes, at: usize)
+    requires { ⌜ at < 214 ⌝ }
+{
+    notes[at] = std::num::wrapping_add_u64(notes[at], 1);
 }
 
 // Counts an answer, and mixes it into the digest.
 pub fn note(notes: &mut Notes, kind: u32, answer: u64) {
-    let at = place(kind, number_of(answer));
-    notes[at] = std::num::wrapping_add_u64(notes[at], 1);
+    count_one(notes, place(kind, number_of(answer)));
     mix(notes, answer);
 }
 
@@ -56,7 +75,7 @@ fn can_refuse(kind: u32, number: u64) -> bool {
         14 | 15 | 16 | 17 => kind != WITHDRAW && kind != MOVE,
         18 | 19 | 21 => kind == ADD,
         20 => kind == ADD || kind == MOVE,
-        22 => true,
+        22 => kind != REASON,
         23 => kind != ADD,
         25 => kind == MOVE,
         _ => false,
@@ -80,16 +99,11 @@ fn possible(kind: u32, number: u64) -> bool {
     can_refuse(kind, number)
 }
 
-// Writes one count, `-` where the question is never answered so, and gives 1 where it can be and never was.
-fn print_count(notes: &Notes, kind: u32, number: u64) -> u64
+// Writes a space and a count, and gives 1 where it is 0.
+fn print_one(count: u64) -> u64
     ensures { λ r. ⌜ r ≤ 1 ⌝ }
 {
     io::write_all(1, b" ");
-    if !possible(kind, number) {
-        io::write_all(1, b"-");
-        return 0;
-    }
-    let count = count_of(notes, kind, number);
     io::print_decimal(1, count);
     if count == 0 {
         return 1;
@@ -97,14 +111,25 @@ fn print_count(notes: &Notes, kind: u32, number: u64) -> u64
     0
 }
 
+// Writes one count, `-` where the question is never answered so, and gives 1 where it can be and never was.
+fn print_count(notes: &Notes, kind: u32, number: u64) -> u64
+    ensures { λ r. ⌜ r ≤ 1 ⌝ }
+{
+    if !possible(kind, number) {
+        io::write_all(1, b" -");
+        return 0;
+    }
+    print_one(count_of(notes, kind, number))
+}
+
 // Writes the counts of one number, and gives how many questions can be answered so and never were.
 fn print_line(notes: &Notes, number: u64) -> u64
-    ensures { λ r. ⌜ r ≤ 7 ⌝ }
+    ensures { λ r. ⌜ r ≤ 8 ⌝ }
 {
     io::print_decimal(1, number);
     let mut missing: u64 = 0;
     let mut kind: u32 = 0;
-    while kind < 7 {
+    while kind < 8 {
         missing += print_count(notes, kind, number);
         kind += 1;
     }
@@ -112,19 +137,43 @@ fn print_line(notes: &Notes, number: u64) -> u64
     missing
 }
 
-// Writes all counts, and how many of the possible answers never came.
-pub fn print_counts(notes: &Notes) {
-    io::write_all(
-        1,
-        b"number: read distance add withdraw move check arrange\n",
-    );
+// Writes the counts of the reasons, and gives how many of these ways never came.
+fn print_ways(notes: &Notes) -> u64
+    ensures { λ r. ⌜ r ≤ 5 ⌝ }
+{
+    io::write_all(1, b"reason: clear, and blocked by column:");
+    let clear = print_one(notes[WAYS]);
+    let zero = print_one(notes[WAYS + 1]);
+    let one = print_one(notes[WAYS + 2]);
+    let two = print_one(notes[WAYS + 3]);
+    let three = print_one(notes[WAYS + 4]);
+    io::write_all(1, b"\n");
+    clear + zero + one + two + three
+}
+
+// Writes the counts number by number, and gives how many of the possible answers never came.
+fn print_lines(notes: &Notes) -> u64
+    ensures { λ r. ⌜ r ≤ 208 ⌝ }
+{
     let mut missing: u64 = 0;
     let mut number: u64 = 0;
     while number < 26 {
         missing += print_line(notes, number);
         number += 1;
     }
+    missing
+}
+
+// Writes all counts, how many of the possible answers never came, and the digest.
+pub fn print_counts(notes: &Notes) {
+    io::write_all(
+        1,
+        b"number: read distance add withdraw move check arrange reason\n",
+    );
+    let missing = print_lines(notes) + print_ways(notes);
     io::write_all(1, b"possible answers that never came: ");
     io::print_decimal(1, missing);
+    io::write_all(1, b"\ndigest ");
+    io::print_hex(1, notes[DIGEST], 16);
     io::write_all(1, b"\n");
 }

@@ -4,9 +4,10 @@ mod likeness;
 mod room;
 mod rows;
 mod shown;
+mod told;
 
-pub use counts::DIGEST;
 pub use counts::Notes;
+pub use counts::fresh_notes;
 pub use counts::note;
 pub use counts::print_counts;
 pub use likeness::alike_bytes;
@@ -20,3 +21,6 @@ pub use rows::Row;
 pub use rows::seventy_three;
 pub use rows::stands;
 pub use shown::unlike;
+pub use told::kept;
+pub use told::note_reason;
+pub use told::same_told;

@@ -39,7 +39,7 @@ fn print_question(q: Question) {
     ];
     io::write_all(
         1,
-        b"difference in question (read 0, distance 1, add 2, withdraw 3, move 4, check 5, arrange 6), id, channel, last, class, zone, two sites:",
+        b"difference in question (read 0, distance 1, add 2, withdraw 3, move 4, check 5, arrange 6, reason 7), id, channel, last, class, zone, two sites:",
     );
     print_numbers(&numbers);
 }

@@ -1,10 +1,11 @@
--- 01, The programs: the text of what is granted, as bytes. Assumes nothing.
+-- 01, The programs; 02, R-2: the text of what is granted, as bytes. Assumes nothing.
 use mathlib.Core.List.{List, [], _∷_, _++_}
 use Prim.Native.Nat.{ℕ, _/_}
 use lib.ListN.{length}
+use Rattle.desk.specs.Answers.{Outcome, grant, deny}
 use Rattle.desk.specs.declared.Answer.{Answer}
 use Rattle.desk.specs.declared.Answer.the-variants.{Granted, Refused}
-use Rattle.lines.specs.Lines.{ended, rowLine, shortLine, refusedLine}
+use Rattle.lines.specs.Lines.{ended, rowLine, numbersLine, clearLine, shortLine, refusedLine}
 
 -- a line for each row of three numbers
 unfoldable pub linesText : List ℕ → List ℕ
@@ -17,9 +18,19 @@ linesText (a ∷ b ∷ c ∷ vs) = rowLine a b c ++ linesText vs
 unfoldable pub shortText : List ℕ → List ℕ
 shortText vs = shortLine (length vs / 3) ++ linesText vs
 
+-- `clear` where there is no number, else `id D R column`
+abbrev pub reasonText : List ℕ → List ℕ
+reasonText [] = clearLine
+reasonText (a ∷ vs) = numbersLine (a ∷ vs)
+
 -- an image is its own text
 abbrev pub imageText : List ℕ → List ℕ
 imageText vs = vs
+
+-- the text of all that is granted; of a refusal, its one line
+abbrev pub printed : (List ℕ → List ℕ) → Outcome → List ℕ
+printed text (grant vs) = text vs
+printed text (deny f) = refusedLine f
 
 -- D, on a line; or the line of the refusal
 abbrev pub distanceText : Answer → List ℕ

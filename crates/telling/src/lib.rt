@@ -5,16 +5,20 @@ ghost use lib.ListN.{length, take};
 ghost use Rattle.ground.specs.Writing.{Wrote};
 ghost use Rattle.lines.specs.Lines.{refusedLine};
 ghost use Rattle.part73.specs.Channels.{channelCount};
+ghost use Rattle.reasons.specs.Reason.{outcomeOf};
 ghost use Rattle.stations.specs.Version.{limit};
 ghost use Rattle.streams.specs.Tells.{Tells};
-ghost use Rattle.telling.specs.Texts.{linesText, shortText, imageText, distanceText};
+ghost use Rattle.telling.specs.Texts.{linesText, shortText, imageText, distanceText, reasonText, printed};
 ghost use Rattle.telling.specs.Told.{told, Within, isRefused};
 use desk::Answer;
 use lines::LINE;
+use lines::put_clear;
 use lines::put_heading;
 use lines::put_lines;
+use lines::put_reason;
 use lines::put_refusal;
 use lines::put_single;
+use reasons::Why;
 use refusals::Refusal;
 use streams::hand;
 use streams::room;
@@ -126,5 +130,23 @@ pub fn tell_distance(text: &mut [u8], answer: Answer, mark: &mut usize) -> bool
             hand(text, end, mark)
         }
         Answer::Refused(refusal) => tell_refusal(text, refusal, mark),
+    }
+}
+
+// The answer to the question for the reason.
+pub fn tell_reason(text: &mut [u8], why: Why, mark: &mut usize) -> bool
+    requires { ⌜ 44 ≤ length (now text) ⌝ }
+    ensures { λ r. ⌜ Tells (printed reasonText (outcomeOf why)) (now (mark .entry)) (now (mark .exit)) r ⌝ }
+{
+    match why {
+        Why::Clear => {
+            let end = put_clear(text, 0);
+            hand(text, end, mark)
+        }
+        Why::Blocked(n) => {
+            let end = put_reason(text, 0, n.id, n.distance, n.separation, n.column);
+            hand(text, end, mark)
+        }
+        Why::Refused(refusal) => tell_refusal(text, refusal, mark),
     }
 }

@@ -5,8 +5,9 @@ use borrow.Author.Needs.{needs}
 use Rattle.stations.specs.Image.{stations, Accepted}
 use Rattle.stations.proofs.Stages.{is-accepted}
 use Rattle.studies.specs.Studies.{studyFault}
-use Rattle.studies.proofs.Ways.{passed, table-left, wanted-left, passed-on}
+use Rattle.studies.proofs.Ways.{table-left, wanted-left, passed-on}
 use Rattle.checks.specs.Check.{onOne, checkedFor}
+use Rattle.checks.proofs.Passing.{passed-one}
 use Rattle.checks.proofs.check.Statement.{statement}
 use Rattle.checks.proofs.check.Tie as tie
 
@@ -68,9 +69,7 @@ list-requires c κs =
     let p = c .before .before in
     let e = p .before .before in
     let v = e .before .before in
-    let q = passed _ _ (whole (v .before .before)) (sym (found v) ∙ e .enum-told3 .given .1) in
-    rw (p .place-asked .ensures, v .before .on-one .ensures)
-    (record { accepted = q .accepted; asked = record { low = q .asked .low; high = q .asked .high }; placed = q .placed })
+    rw (p .place-asked .ensures, v .before .on-one .ensures) (passed-one _ _ (whole (v .before .before)) (sym (found v) ∙ e .enum-told3 .given .1))
 
 same-length : tie.Need-same-length
 same-length c = search needs

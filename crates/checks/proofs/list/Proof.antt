@@ -16,7 +16,8 @@ use Rattle.stations.proofs.Versions.{limit-small}
 use Rattle.survey.specs.Ways.{studied}
 use Rattle.desk.proofs.Answers.{does-not-fit, written}
 use Rattle.checks.specs.Check.{rowOf, rowsFor}
-use Rattle.checks.proofs.Listing.{noted-few, position, rows-noted, length-rows}
+use Rattle.nearby.proofs.Noted.{noted-few, noted-at}
+use Rattle.checks.proofs.Listing.{rows-noted, length-rows}
 use Rattle.checks.proofs.list.Statement.{statement}
 use Rattle.checks.proofs.list.Tie as tie
 
@@ -53,7 +54,7 @@ put-noted-requires c κs =
     let m = c .before .before .before in
     let s = m .before .before .before .before in
     let w = m .note-short .ensures in
-    record { accepted = s .pre .accepted; placed = s .pre .placed; long = w .long; few = noted-few w; each-one = position _ (s .pre .accepted) _ _ w }
+    noted-at _ (s .pre .accepted) _ _ w (s .args .place) (s .pre .placed)
 
 cast-count : tie.Need-cast-count
 cast-count c =

@@ -39,6 +39,12 @@ enum-told-4 c = search needs
 study-requires : tie.Need-study-requires
 study-requires c κs = search needs
 
+enum-told-5 : tie.Need-enum-told-5
+enum-told-5 c = search needs
+
+reason-requires : tie.Need-reason-requires
+reason-requires c κs = search needs
+
 returns : tie.Need-returns
 unfolding printedBy
 returns c = by _ (c .before .before .enum-told .given .1) (c .check .ensures)
@@ -55,6 +61,10 @@ returns-4 : tie.Need-returns-4
 unfolding printedBy
 returns-4 c = by _ (c .before .before .enum-told4 .given .1) (c .study .ensures)
 
+returns-5 : tie.Need-returns-5
+unfolding printedBy
+returns-5 c = by _ (c .before .before .enum-told5 .given .1) (c .reason .ensures)
+
 pub tell-spec : {M : Type 1} → statement M
 tell-spec =
     tie.close
@@ -67,7 +77,10 @@ tell-spec =
     change-requires
     enum-told-4
     study-requires
+    enum-told-5
+    reason-requires
     returns
     returns-2
     returns-3
-    returns-4)
+    returns-4
+    returns-5)

@@ -23,17 +23,17 @@ there c = le-ltb (length (now (c .before .before .args .input))) 5 (omega (arith
 get8-requires : tie.Need-get8-requires
 get8-requires c κs = search needs
 
-terms-in-requires : tie.Need-terms-in-requires
-terms-in-requires c κs = search needs
+terms-at-requires : tie.Need-terms-at-requires
+terms-at-requires c κs = search needs
 
 returns-2 : tie.Need-returns-2
 unfolding subjectOf given
 returns-2 c =
     let g = c .before .before in
-    sym (rw (there (g .before), eq-eqb _ 99 (sym (g .get8 .ensures) ∙ c .before .if2 .taken), c .terms-in .ensures))
+    sym (rw (there (g .before), eq-eqb _ 99 (sym (g .get8 .ensures) ∙ c .before .if2 .taken), c .terms-at .ensures))
 
-terms-in-requires-2 : tie.Need-terms-in-requires-2
-terms-in-requires-2 c κs = search needs
+terms-at-requires-2 : tie.Need-terms-at-requires-2
+terms-at-requires-2 c κs = search needs
 
 returns-3 : tie.Need-returns-3
 unfolding subjectOf given
@@ -43,7 +43,7 @@ returns-3 c =
       there (g .before),
       ne-eqb _ 99 (λ h. c .before .before .if2 .left (g .get8 .ensures ∙ h)),
       eq-eqb _ 97 (sym (g .get8 .ensures) ∙ c .before .if3 .taken),
-      c .terms-in2 .ensures,
+      c .terms-at2 .ensures,
     ))
 
 returns-4 : tie.Need-returns-4
@@ -62,8 +62,8 @@ subject-of-spec =
     (tie.spec
     returns
     get8-requires
-    terms-in-requires
+    terms-at-requires
     returns-2
-    terms-in-requires-2
+    terms-at-requires-2
     returns-3
     returns-4)

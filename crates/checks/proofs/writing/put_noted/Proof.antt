@@ -61,7 +61,7 @@ put-station-requires : tie.Need-put-station-requires Inv-loop μ-loop
 put-station-requires c κs =
     let l = c .before .before .before in
     let s = l .before .before .before in
-    record { accepted = s .pre .accepted; placed = s .pre .placed; within = s .pre .each-one (l .loop .t) (omega arith); room = omega (arith, l .loop .inv .1, most s) }
+    record { beside = record { accepted = s .pre .accepted; placed = s .pre .placed; within = s .pre .each-one (l .loop .t) (omega arith) }; room = omega (arith, l .loop .inv .1, most s) }
 
 add-t : tie.Need-add-t Inv-loop μ-loop
 add-t c = omega arith

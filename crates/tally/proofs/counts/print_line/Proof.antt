@@ -5,10 +5,10 @@ use Rattle.tally.proofs.counts.print_line.Statement.{statement}
 use Rattle.tally.proofs.counts.print_line.Tie as tie
 
 abbrev Inv-loop : tie.InvT-loop
-Inv-loop notes number missing₀ kind₀ t5 missing kind = (missing ≤ kind) × (kind ≤ 7)
+Inv-loop notes number missing₀ kind₀ t5 missing kind = (missing ≤ kind) × (kind ≤ 8)
 
 abbrev μ-loop : tie.MeasureT-loop
-μ-loop notes number missing₀ kind₀ t5 missing kind = 7 - kind
+μ-loop notes number missing₀ kind₀ t5 missing kind = 8 - kind
 
 print-decimal-requires : tie.Need-print-decimal-requires Inv-loop μ-loop
 print-decimal-requires c κs = search needs

@@ -1,0 +1,13 @@
+// The two implementations side by side: a question put to each, and what they answer compared.
+mod comparing;
+mod question;
+
+pub use comparing::compare;
+pub use comparing::compare_all_rows;
+pub use comparing::compare_number;
+pub use comparing::compare_one_place;
+pub use comparing::compare_reason;
+pub use question::first_rows;
+pub use question::second_number;
+pub use question::second_reason;
+pub use question::second_rows;

@@ -1,0 +1,167 @@
+// Cases with their answers: an id left aside in check, arrange and reason, and of reason each column, equals and refusals.
+use super::image::Record;
+use super::image::put_header;
+use super::image::put_record;
+use super::paper::paper_channel;
+use super::paper::paper_class;
+use super::paper::paper_column;
+use super::paper::paper_separation;
+use super::paper::put_seven;
+use super::question::ARRANGE;
+use super::question::CHECK;
+use super::question::Question;
+use super::question::REASON;
+use super::words::Site;
+ghost use Prim.Native.Nat.{_≤_};
+
+// A question; its answer with all the room for rows, and with one place; and the four numbers behind a reason.
+pub struct Given {
+    pub question: Question,
+    pub answer: u64,
+    pub narrow: u64,
+    pub told: [u32; 4],
+}
+
+// How many there are.
+pub const GIVEN: u32 = 35;
+
+// The bytes of their longest table.
+pub const GIVEN_BYTES: usize = 72;
+
+// What stands in the four numbers where nothing is told.
+pub const UNTOLD: u32 = 4_294_967_295;
+
+// The least packed refusal, 2^32.
+const REFUSED: u64 = 4_294_967_296;
+
+// Writes a station of a class on the equator.
+fn put_on_equator(table: &mut [u8], position: usize, id: u32, channel: u32, class: u32, lon: u32)
+    requires { ⌜ position ≤ 2001 ⌝ }
+{
+    let record = Record {
+        id,
+        channel,
+        class,
+        flags: 0,
+        site: Site { lat: 0, lon },
+    };
+    put_record(table, position, record);
+}
+
+// Writes four stations of class A, the last of any class. At the crossing of equator and meridian class A on channel 250 is short
+// to id 3 by 31 km, and to each of the others by 59 km.
+fn put_equals(table: &mut [u8], class: u32) {
+    put_header(table, 4);
+    put_on_equator(table, 0, 3, 253, 0, 0);
+    put_on_equator(table, 1, 5, 251, 0, 420);
+    put_on_equator(table, 2, 7, 250, 0, 1_800);
+    put_on_equator(table, 3, 9, 250, class, 4_294_965_496);
+}
+
+// Writes the table of a case, and gives its length: one station of the paper's, four, or four of which the last has no class.
+pub fn put_given_table(table: &mut [u8], k: u32) -> usize {
+    match k {
+        0..=11 => {
+            put_seven(table, 240, paper_class(k), 0);
+            24
+        }
+        12..=17 => {
+            put_seven(table, 250, 0, 0);
+            24
+        }
+        18..=25 => {
+            put_seven(table, 260, 0, 0);
+            24
+        }
+        26..=31 => {
+            put_equals(table, 0);
+            72
+        }
+        _ => {
+            put_equals(table, 8);
+            72
+        }
+    }
+}
+
+// A question in zone II from a channel on, at a longitude on the equator, with an id left aside.
+fn asked(kind: u32, channel: u32, class: u32, lon: u32, aside: u32) -> Question {
+    Question {
+        kind,
+        id: aside,
+        channel,
+        last: 300,
+        class,
+        zone: 3,
+        lat: 0,
+        lon,
+        lat2: 0,
+        lon2: 0,
+    }
+}
+
+// Class A is answered alike with any room, and nothing is told: no row or clear, 0, or a refusal.
+fn silent(kind: u32, channel: u32, lon: u32, aside: u32, answer: u64) -> Given {
+    Given {
+        question: asked(kind, channel, 0, lon, aside),
+        answer,
+        narrow: answer,
+        told: [UNTOLD; 4],
+    }
+}
+
+// Class A at the crossing of equator and meridian is answered with the numbers of some rows.
+fn counted(kind: u32, channel: u32, aside: u32, count: u64) -> Given
+    requires { ⌜ count ≤ 10000 ⌝ }
+{
+    Given {
+        question: asked(kind, channel, 0, 0, aside),
+        answer: count,
+        narrow: 22 * REFUSED + count,
+        told: [UNTOLD; 4],
+    }
+}
+
+// A reason is answered with the place of a station, and tells its four numbers.
+fn named(channel: u32, class: u32, lon: u32, aside: u32, place: u64, told: [u32; 4]) -> Given {
+    Given {
+        question: asked(REASON, channel, class, lon, aside),
+        answer: place,
+        narrow: place,
+        told,
+    }
+}
+
+// The cases in a row: twelve of reason by the paper's separations, and six beside its one station; four each of check and arrange
+// with an id left aside; six of reason beside four stations; and one of each where the station left aside is faulty.
+pub fn given_case(k: u32) -> Given {
+    match k {
+        12 => named(250, 0, 3_702, 0, 8, [7, 114, 115, 0]),
+        13 => silent(REASON, 250, 3_703, 0, 0),
+        14 => silent(REASON, 250, 3_702, 7, 0),
+        15 => silent(REASON, 250, 3_702, 8, 23 * REFUSED),
+        16 => silent(REASON, 250, 648_001, 8, 17 * REFUSED),
+        17 => silent(REASON, 220, 648_001, 8, 13 * REFUSED),
+        18 => counted(CHECK, 260, 0, 3),
+        19 => silent(CHECK, 260, 0, 7, 0),
+        20 => silent(CHECK, 260, 0, 8, 23 * REFUSED),
+        21 => silent(CHECK, 260, 648_001, 8, 17 * REFUSED),
+        22 => counted(ARRANGE, 221, 0, 1_752),
+        23 => counted(ARRANGE, 221, 7, 240),
+        24 => silent(ARRANGE, 221, 0, 8, 23 * REFUSED),
+        25 => silent(ARRANGE, 221, 648_001, 8, 17 * REFUSED),
+        26 => named(250, 0, 0, 0, 24, [5, 13, 72, 1]),
+        27 => named(250, 0, 0, 3, 24, [5, 13, 72, 1]),
+        28 => named(250, 0, 0, 5, 40, [7, 56, 115, 0]),
+        29 => named(250, 0, 4_294_965_496, 0, 56, [9, 0, 115, 0]),
+        30 => named(253, 0, 0, 0, 8, [3, 0, 115, 0]),
+        31 => silent(REASON, 300, 0, 0, 0),
+        32 => silent(CHECK, 260, 0, 9, 9 * REFUSED + 3),
+        33 => silent(ARRANGE, 221, 0, 9, 9 * REFUSED + 3),
+        34 => silent(REASON, 220, 0, 9, 9 * REFUSED + 3),
+        _ => {
+            let told = [7, 0, paper_separation(k), paper_column(k)];
+            named(paper_channel(k), paper_class(k), 0, 0, 8, told)
+        }
+    }
+}

@@ -1,0 +1,26 @@
+-- `programs::reason` meets its contract. Assumes nothing.
+use mathlib.Core.Path.{ap}
+use Rattle.streams.proofs.Pieces.{tells-as}
+use Rattle.telling.specs.Texts.{reasonText, printed}
+use Rattle.programs.specs.Printed.{printedReason}
+use borrow.Author.Needs.{needs}
+use Rattle.programs.proofs.reason.Statement.{statement}
+use Rattle.programs.proofs.reason.Tie as tie
+
+asked-reason-requires : tie.Need-asked-reason-requires
+asked-reason-requires c κs = search needs
+
+slice-aggregate-tell-reason : tie.Need-slice-aggregate-tell-reason
+slice-aggregate-tell-reason c = search needs
+
+tell-reason-requires : tie.Need-tell-reason-requires
+tell-reason-requires c κs = search needs
+
+returns : tie.Need-returns
+unfolding printedReason
+returns c = tells-as (ap (printed reasonText) (c .before .before .before .before .asked-reason .ensures)) (c .before .tell-reason .ensures)
+
+pub reason-spec : {M : Type 1} → statement M
+reason-spec =
+    tie.close
+    (tie.spec asked-reason-requires slice-aggregate-tell-reason tell-reason-requires returns)

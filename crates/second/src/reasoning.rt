@@ -1,0 +1,104 @@
+// The question reason: the first station whose shortfall no other one exceeds.
+use super::answer::refused;
+use super::image::size;
+use super::pairs::apart;
+use super::pairs::required;
+use super::pairs::shortfall;
+use super::proposal::fault;
+use super::proposal::proposed;
+use super::records::Station;
+use super::records::station_at;
+use super::rows::put;
+use super::rows::put_row;
+use super::study::judge_study;
+use second_rule::column;
+ghost use Prim.Native.Nat.{_≤_};
+ghost use Rattle.second.specs.Answer.{Packed};
+
+// By how many km the station at a position is short to the proposal; 0 where it is not, or is left aside.
+fn shortfall_at(table: &[u8], new: Station, position: usize) -> u64
+    requires { ⌜ position ≤ 2000 ⌝ }
+{
+    let s = station_at(table, position);
+    if s.id == new.id {
+        return 0;
+    }
+    shortfall(new, s)
+}
+
+// Whether some station is short to the proposal by more than so many km.
+fn exceeded(table: &[u8], n: usize, new: Station, km: u64) -> bool
+    requires { ⌜ n ≤ 2000 ⌝ }
+{
+    let mut i: usize = 0;
+    while i < n {
+        if km < shortfall_at(table, new, i) {
+            return true;
+        }
+        i += 1;
+    }
+    false
+}
+
+// Whether the station at a position is short to the proposal, and no other by more.
+fn is_worst(table: &[u8], n: usize, new: Station, position: usize) -> bool
+    requires { ⌜ (n ≤ 2000) × (position ≤ 2000) ⌝ }
+{
+    let km = shortfall_at(table, new, position);
+    if km == 0 {
+        return false;
+    }
+    !exceeded(table, n, new, km)
+}
+
+// The first such position; n where there is none.
+fn first_worst(table: &[u8], n: usize, new: Station) -> usize
+    requires { ⌜ n ≤ 2000 ⌝ }
+    ensures { λ r. ⌜ r ≤ n ⌝ }
+{
+    let mut i: usize = 0;
+    while i < n {
+        if is_worst(table, n, new, i) {
+            return i;
+        }
+        i += 1;
+    }
+    n
+}
+
+// Writes id, D, R and column of a station beside the proposal.
+fn put_reason(new: Station, s: Station, reason: &mut [u32; 4]) {
+    put_row(reason, 0, s.id, apart(new, s), required(new, s));
+    put(reason, 3, column(new.channel, s.channel));
+}
+
+// The place in the table of the station with the largest shortfall to a proposal, the first of equals, and its id, D, R and
+// column; 0 and nothing written where none is short. The station of an id is left aside, 0 for none.
+pub fn reason(
+    table: &[u8],
+    channel: u32,
+    class: u32,
+    zone: u32,
+    lat: i32,
+    lon: i32,
+    aside: u32,
+    reason: &mut [u32; 4],
+) -> u64
+    ensures { λ r. ⌜ Packed 32008 r ⌝ }
+{
+    let wrong = fault(channel, channel, class, zone, lat, lon);
+    let judged = judge_study(table, wrong, aside);
+    let number = judged.number;
+    if number != 0 {
+        return refused(number, judged.extra);
+    }
+    let n = judged.stations;
+    let new = proposed(aside, channel, class, lat, lon);
+    let p = first_worst(table, n, new);
+    if n <= p {
+        return 0;
+    }
+    put_reason(new, station_at(table, p), reason);
+    // Its record begins behind those before it.
+    size(p) as u64
+}
