@@ -19,7 +19,7 @@ use Rattle.wire.specs.Be.{be}
 use Rattle.refusals.specs.declared.Refusal.{Refusal}
 use Rattle.part73.specs.Channels.{lowest, highest, channelCount, newChannels}
 use Rattle.part73.specs.TableA.{tableA}
-use Rattle.stations.specs.Version.{limit}
+use Rattle.versions.specs.Version.{limit}
 use Rattle.stations.specs.Image.{judged, stationAt, stations, count, Accepted}
 use Rattle.stations.specs.Encode.{encode}
 use Rattle.stations.specs.Lists.{movable}

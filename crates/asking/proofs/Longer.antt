@@ -11,8 +11,8 @@ use borrow.Author.Tests.{le-ltb, ne-eqb}
 use Rattle.ground.specs.Guard.{given}
 use Rattle.wire.proofs.Alike.{Alike, be-alike}
 use Rattle.refusals.specs.declared.Refusal.{Refusal}
+use Rattle.versions.proofs.Versions.{limit-small}
 use Rattle.stations.specs.Image.{judged}
-use Rattle.stations.proofs.Versions.{limit-small}
 use Rattle.stations.proofs.Longer.{refused-alike}
 use Rattle.stations.specs.declared.Judged.{Judged}
 use Rattle.stations.specs.declared.Judged.the-variants.{Refused}

@@ -20,7 +20,7 @@ use Rattle.ground.proofs.Positions.{none-in}
 use Rattle.ground.proofs.Firsts.{first-found, first-past, some-first}
 use Rattle.refusals.specs.declared.Refusal.{Refusal}
 use Rattle.refusals.specs.Faults.{Fault, refusal, AskedChannel, IdZero, IdPresent, Short, TableFull, IdAbsent, NotMovable}
-use Rattle.stations.specs.Version.{limit}
+use Rattle.versions.specs.Version.{limit}
 use Rattle.stations.specs.Lists.{hasId, onto, insert, without, rechannel, Apart}
 use Rattle.stations.specs.declared.Station.{Station}
 use Rattle.stations.specs.declared.Verdict.{Verdict}

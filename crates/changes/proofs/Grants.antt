@@ -10,7 +10,7 @@ use borrow.Author.Tests.{ltb-false, leb-false, eqb-false}
 use Rattle.ground.specs.Lists.{_∈_, some}
 use Rattle.ground.proofs.Guards.{past, not-was, or-was}
 use Rattle.refusals.specs.declared.Refusal.{Refusal}
-use Rattle.stations.specs.Version.{limit}
+use Rattle.versions.specs.Version.{limit}
 use Rattle.stations.specs.Lists.{hasId, movable, onto, insert, without, rechannel}
 use Rattle.stations.specs.declared.Station.{Station}
 use Rattle.stations.specs.declared.Verdict.{Verdict}

@@ -2,10 +2,11 @@
 use mathlib.Core.Path.{_≡_, sym, _∙_}
 use mathlib.Core.Bool.{true}
 use mathlib.Core.List.{List}
-use Prim.Native.Nat.{ℕ, _≤_, _<_}
+use Prim.Native.Nat.{ℕ, _<_}
 use native.Mathlib.Omega.{arith}
 use Rattle.ground.specs.Lists.{some, first}
 use Rattle.ground.proofs.Positions.{in-at}
+use Rattle.versions.proofs.Versions.{limit-small}
 use Rattle.stations.specs.Image.{stationAt, stations, judged}
 use Rattle.stations.specs.Lists.{hasId, fromId, withId}
 use Rattle.stations.specs.declared.Judged.the-variants.{Table}
@@ -13,15 +14,14 @@ use Rattle.stations.specs.declared.Station.{Station}
 use Rattle.stations.proofs.Ids.{with-one}
 use Rattle.stations.proofs.Table.{whole, next}
 use Rattle.stations.proofs.Places.{ids-ascend, place-le, present-place, present-first}
-use Rattle.stations.proofs.Versions.{limit-small}
 
 module _ (s : List ℕ) (n : ℕ) (e : judged s ≡ Table n) where
-  -- the count, and so every position, fits 32 bits
-  pub count-small : n ≤ 4000
+  -- the count, and so every position, fits 16 bits
+  pub count-small : n < 65536
   count-small = omega (arith, whole s n e .few, limit-small)
 
   module _ (id p : ℕ) (here : p ≡ first (fromId id) (stations s)) where
-    pub place-small : p ≤ 4000
+    pub place-small : p < 65536
     place-small = omega (arith, place-le s n e id, count-small)
 
     module _ (there : some (hasId id) (stations s) ≡ true) where

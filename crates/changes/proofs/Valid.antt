@@ -3,7 +3,8 @@ use mathlib.Core.Path.{_≡_}
 use mathlib.Core.List.{List}
 use Prim.Native.Nat.{ℕ, _^_, _<_}
 use native.Mathlib.Omega.{arith}
-use Rattle.stations.specs.Version.{top, versionOf}
+use Rattle.versions.specs.Version.{top}
+use Rattle.stations.specs.Encode.{versionOf}
 use Rattle.stations.specs.declared.Station.{Station}
 use Rattle.stations.proofs.Fine.{Fine}
 use Rattle.stations.proofs.Parts.{Valid, valid-insert, valid-without, valid-rechannel}

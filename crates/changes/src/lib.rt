@@ -74,7 +74,7 @@ fn enter(table: &[u8], r: Station, image: &mut [u8]) -> Answer
     if q < n {
         return desk::refused_with(refusals::SHORT, q as u32);
     }
-    if stations::is_full(n) {
+    if versions::is_full(n) {
         return desk::refused(refusals::TABLE_FULL);
     }
     grant_add(table, p, r, image)

@@ -13,10 +13,10 @@ use desk::Answer;
 use nearby::NO_POSITION;
 use spacing::Place;
 use stations::Judged;
-use stations::LIMIT;
 use stations::Verdict;
 use studies::Wanted;
 use survey::Terms;
+use versions::LIMIT;
 use writing::put_noted;
 
 // What is proposed: a station of a class on a channel at a site, in a zone; and the id of the record that is left aside, 0 for

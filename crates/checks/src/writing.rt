@@ -33,7 +33,7 @@ pub fn put_noted(
     table: &[u8],
     channel: usize,
     place: Place,
-    hits: &[u16; stations::LIMIT],
+    hits: &[u16; versions::LIMIT],
     k: usize,
     rows: &mut [u32],
 ) -> usize

@@ -8,8 +8,8 @@ use lib.IntN.{ℤ}
 use lib.ListN.{length}
 use Rattle.ground.proofs.Cases.{either}
 use Rattle.refusals.specs.Faults.{Fault, refusal, UnderEightBytes, MarkDiffers, VersionUnknown, SixthByteSet, CountOver, LengthWrong, IdNotAscending, ChannelOutside, ClassOver, FlagsOver, LatitudeOutside, LongitudeOutside, AskedChannel, AskedClass, AskedZone, NotPermitted, AskedSite, IdZero, IdPresent, Short, TableFull, DoesNotFit, IdAbsent, TooFar, NotMovable}
+use Rattle.versions.specs.Version.{top}
 use Rattle.stations.specs.Image.{stations, numbers, headed, verdict, scan, scanned, stages, then, tableOf, judged, version, count}
-use Rattle.stations.specs.Version.{top}
 use Rattle.stations.specs.Lists.{withId}
 use Rattle.stations.specs.Encode.{encode}
 use Rattle.stations.specs.declared.Station.{Station}

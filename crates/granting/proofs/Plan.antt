@@ -10,12 +10,12 @@ use Rattle.ground.specs.Lists.{each}
 use Rattle.ground.proofs.Spans.{each-append}
 use Rattle.wire.specs.Be.{Bytes}
 use Rattle.refusals.specs.Faults.{refusal, DoesNotFit}
-use Rattle.stations.specs.Version.{versionOf, Calls}
+use Rattle.versions.specs.Version.{versionFor}
+use Rattle.versions.proofs.Versions.{limit-small}
 use Rattle.stations.specs.Image.{stationAt, stations, count}
 use Rattle.stations.specs.Lists.{onto, insert, without, rechannel}
-use Rattle.stations.specs.Encode.{recordOf, headerOf, encode}
+use Rattle.stations.specs.Encode.{recordOf, headerOf, versionOf, encode}
 use Rattle.stations.specs.declared.Station.{Station}
-use Rattle.stations.proofs.Versions.{limit-small}
 use Rattle.stations.proofs.Changed.{insert-cut, without-cut, rechannel-cut}
 use Rattle.stations.proofs.Back.{length-encode}
 use Rattle.stations.proofs.Table.{Whole, whole, length-stations, next}
@@ -49,11 +49,11 @@ module _ {s : List ℕ} {p q m : ℕ} (mid : List Station) (k : Plan s p q (leng
       let l = table .long in
       record { front = omega (arith, k .front); back = omega (arith, k .back); enough = omega (arith, k .front, k .back, k .many) }
 
-  image : Bytes s → {v : ℕ} → Calls m v → (headerOf v m ++ take (16 * p) (drop 8 s)) ++ (each recordOf mid ++ drop (8 + 16 * q) s) ≡ encode planned
-  unfolding encode
+  image : Bytes s → {v : ℕ} → v ≡ versionFor m → (headerOf v m ++ take (16 * p) (drop 8 s)) ++ (each recordOf mid ++ drop (8 + 16 * q) s) ≡ encode planned
+  unfolding encode versionOf
   image b {v} call =
       let ss = stations s in
-      let head : headerOf v m ≡ headerOf (versionOf planned) (length planned) = ap₂ headerOf (call .for planned listed) (sym listed) in
+      let head : headerOf v m ≡ headerOf (versionOf planned) (length planned) = ap₂ headerOf (call ∙ ap versionFor (sym listed)) (sym listed) in
       let parts : each recordOf planned ≡ each recordOf (take p ss) ++ (each recordOf mid ++ each recordOf (drop q ss)) =
       each-append recordOf (take p ss) (mid ++ drop q ss)
       ∙ ap (λ (l : List ℕ). each recordOf (take p ss) ++ l) (each-append recordOf mid (drop q ss)) in
@@ -76,7 +76,7 @@ module _ {s : List ℕ} {p q m : ℕ} (k : Plan s p q 0 m) where
   pub room-without : {entry : List ℕ} → 8 + 16 * m ≤ length entry → Room s entry p q 0
   room-without h = room [] k h
 
-  pub granted-without : Bytes s → {v : ℕ} → Calls m v → {entry exit : List ℕ} → 8 + 16 * m ≤ length entry
+  pub granted-without : Bytes s → {v : ℕ} → v ≡ versionFor m → {entry exit : List ℕ} → 8 + 16 * m ≤ length entry
       → exit ≡ sets entry 0 ((headerOf v m ++ take (16 * p) (drop 8 s)) ++ drop (8 + 16 * q) s) → Answered (grant (encode (take p (stations s) ++ drop q (stations s)))) entry exit (Granted (8 + 16 * m))
   unfolding each
   granted-without b call fit w = granted [] k fit (image [] k b call) w
@@ -87,7 +87,7 @@ module _ {s : List ℕ} {p q m : ℕ} (r : Station) (k : Plan s p q 1 m) where
   pub room-with : {entry : List ℕ} → 8 + 16 * m ≤ length entry → Room s entry p q 16
   room-with h = room (r ∷ []) k h
 
-  pub granted-with : Bytes s → {v : ℕ} → Calls m v → {entry exit : List ℕ} → 8 + 16 * m ≤ length entry
+  pub granted-with : Bytes s → {v : ℕ} → v ≡ versionFor m → {entry exit : List ℕ} → 8 + 16 * m ≤ length entry
       → exit ≡ sets entry 0 ((headerOf v m ++ take (16 * p) (drop 8 s)) ++ (recordOf r ++ drop (8 + 16 * q) s)) → Answered (grant (encode (take p (stations s) ++ (r ∷ drop q (stations s))))) entry exit (Granted (8 + 16 * m))
   unfolding each
   granted-with b call fit w = granted (r ∷ []) k fit (rw append-nil at (image (r ∷ []) k b call)) w

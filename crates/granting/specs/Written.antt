@@ -5,7 +5,7 @@ use mathlib.Core.List.{List}
 use Prim.Native.Nat.{ℕ, _+_, _-_, _*_, _≤_, _<_}
 use lib.ListN.{length}
 use Rattle.ground.specs.Lists.{some, first}
-use Rattle.stations.specs.Version.{limit}
+use Rattle.versions.specs.Version.{limit}
 use Rattle.stations.specs.Image.{stationAt, stations, count, Accepted}
 use Rattle.stations.specs.Lists.{hasId, fromId, onto}
 use Rattle.stations.specs.declared.Station.{Station}

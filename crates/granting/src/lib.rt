@@ -24,7 +24,7 @@ fn grant_with(table: &[u8], p: usize, q: usize, r: Station, m: usize, image: &mu
     if image.len() < need {
         return desk::refused_with(refusals::DOES_NOT_FIT, told);
     }
-    let version = stations::version_for(m);
+    let version = versions::version_for(m);
     write_with(table, p, q, r, version, m as u16, image);
     Answer::Granted(told)
 }
@@ -60,7 +60,7 @@ pub fn grant_withdraw(table: &[u8], p: usize, image: &mut [u8]) -> Answer
         return desk::refused_with(refusals::DOES_NOT_FIT, told);
     }
     let after = p + 1;
-    let version = stations::version_for(m);
+    let version = versions::version_for(m);
     write_without(table, p, after, version, m as u16, image);
     Answer::Granted(told)
 }

@@ -10,7 +10,7 @@ use lib.ListN.{length, take, set, length-set}
 use lib.Seq.{take-suc-set, length-take-le}
 use Rattle.ground.specs.Lists.{span, keep}
 use Rattle.ground.proofs.Spans.{span-cons, span-done}
-use Rattle.stations.specs.Version.{limit}
+use Rattle.versions.specs.Version.{limit}
 use Rattle.nearby.specs.Positions.{Noted}
 
 -- what is noted of the numbers below i, and those from i to n that pass, are vs

@@ -14,7 +14,7 @@ use spacing::Place;
 use survey::Terms;
 
 // No position of a table.
-pub const NO_POSITION: u16 = stations::LIMIT as u16;
+pub const NO_POSITION: u16 = versions::LIMIT as u16;
 
 // The first position from one on whose record is looked at and the station is short to; the count where there is none.
 pub fn next_short(
@@ -46,7 +46,7 @@ pub fn note_short(
     terms: Terms,
     channel: usize,
     place: Place,
-    hits: &mut [u16; stations::LIMIT],
+    hits: &mut [u16; versions::LIMIT],
 ) -> usize
     requires { ⌜ Notes (now table) channel place (now hits) ⌝ }
     ensures { λ k. ⌜ Noted (shortPositions tableA (looked terms) (now (table .entry)) (sited place channel)) (now (hits .exit)) k ⌝ }

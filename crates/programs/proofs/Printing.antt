@@ -10,7 +10,6 @@ use lib.Seq.{take-append-seam}
 use borrow.Author.Tests.{lt-ltb, le-ltb, ne-eqb}
 use Rattle.ground.specs.Guard.{given}
 use Rattle.part73.specs.Channels.{channelCount}
-use Rattle.stations.specs.Version.{limit}
 use Rattle.survey.specs.declared.Terms.{Terms}
 use Rattle.refusals.specs.Faults.{refusal, UnderEightBytes}
 use Rattle.lines.specs.Lines.{refusedLine}
@@ -26,6 +25,7 @@ use Rattle.subjects.proofs.Subjects.{other-letter}
 use Rattle.asking.proofs.Fitting.{check-fits, arrange-fits, change-fits}
 use Rattle.telling.specs.Texts.{printed, linesText, shortText, imageText, distanceText}
 use Rattle.telling.specs.Told.{told, isRefused}
+use Rattle.versions.specs.Version.{limit}
 use Rattle.programs.specs.OneChannel.{channelText, isDenied}
 use Rattle.programs.specs.Printed.{printedCheck, printedArrange, printedChange, printedReason, printedDistance, printedAs, printedStudy, printedBy}
 use Rattle.programs.specs.declared.Program.the-variants.{Check, Arrange}

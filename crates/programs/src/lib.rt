@@ -47,9 +47,9 @@ const MOVES: usize = CHANNEL_COUNT - 1;
 // The numbers of these rows, of all rows of a Check, and the bytes of the longest image.
 const ROWS_OF_ONE: usize = 3 * MOVES;
 
-const ROWS: usize = 3 * stations::LIMIT;
+const ROWS: usize = 3 * versions::LIMIT;
 
-const IMAGE: usize = stations::HEADER + stations::RECORD * stations::LIMIT;
+const IMAGE: usize = stations::HEADER + stations::RECORD * versions::LIMIT;
 
 // The terms of the programs of 01: nobody is left aside.
 const PLAIN: Terms = Terms { aside: 0 };

@@ -25,7 +25,8 @@ module _ (s : List ℕ) (id : ℕ) (w : Stands s id) where
   pub stands-within : beginsAt s id + 16 ≤ length s
   stands-within = room-at s (w .accepted) (positionIn s id) (stands-at .0)
 
-  pub stands-low : beginsAt s id ≤ 64008
+  -- and counted in 16 bits
+  pub stands-low : beginsAt s id < 65536
   stands-low = omega (arith, stands-at .0, few s (w .accepted))
 
 -- sixteen bytes of an accepted table are the encoding of the station there

@@ -20,10 +20,10 @@ use refusals::Refusal;
 use spacing::Place;
 use stations::HEADER;
 use stations::Judged;
-use stations::LIMIT;
 use stations::RECORD;
 use stations::Verdict;
 use survey::Terms;
+use versions::LIMIT;
 
 // Nobody is in the way; or the station that is named; or a refusal.
 pub enum Why {

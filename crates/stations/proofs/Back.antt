@@ -17,13 +17,13 @@ use Rattle.wire.specs.Be.{be, bytes}
 use Rattle.wire.proofs.Width.{be-bytes, length-bytes}
 use Rattle.wire.proofs.Sign.{signed-bytes}
 use Rattle.distance.specs.Distance.{latitudeOk, longitudeOk}
+use Rattle.versions.specs.Version.{top, limit}
+use Rattle.versions.proofs.Versions.{carried, limit-small, version-small}
 use Rattle.stations.specs.Image.{stationAt, stations, count, headed, numbers, judged, scan, scanned, verdict, Headed}
-use Rattle.stations.specs.Version.{top, limit, versionOf}
-use Rattle.stations.specs.Encode.{recordOf, headerOf, encode}
+use Rattle.stations.specs.Encode.{recordOf, headerOf, versionOf, encode}
 use Rattle.stations.specs.declared.Station.{Station}
 use Rattle.stations.specs.declared.Verdict.the-variants.{Sound}
 use Rattle.stations.specs.declared.Judged.the-variants.{Table}
-use Rattle.stations.proofs.Versions.{carried, limit-small, version-small}
 use Rattle.stations.proofs.Stages.{all-passed}
 use Rattle.stations.proofs.Table.{Marked}
 use Rattle.stations.proofs.Fine.{Fine, Good, Over}
@@ -144,8 +144,8 @@ module _ (rs : List Station) (few : length rs ≤ limit) where
       field 2 (length rs) 6 (encode rs) (70 ∷ 77 ∷ 83 ∷ (bytes 2 (versionOf rs) ++ 0 ∷ [])) (each recordOf rs) (simp append-assoc) (simp (length-append, length-bytes)) (omega (arith, few, limit-small))
 
   version : be 2 (encode rs) 3 ≡ versionOf rs
-  unfolding encode headerOf
-  version = field 2 (versionOf rs) 3 (encode rs) (70 ∷ 77 ∷ 83 ∷ []) (0 ∷ (bytes 2 (length rs) ++ each recordOf rs)) (simp append-assoc) refl (omega (arith, version-small rs))
+  unfolding encode headerOf versionOf
+  version = field 2 (versionOf rs) 3 (encode rs) (70 ∷ 77 ∷ 83 ∷ []) (0 ∷ (bytes 2 (length rs) ++ each recordOf rs)) (simp append-assoc) refl (omega (arith, version-small (length rs)))
 
   blank : getD (encode rs) 5 0 ≡ 0
   unfolding encode headerOf
@@ -156,10 +156,10 @@ module _ (rs : List Station) (few : length rs ≤ limit) where
   marked = (refl, refl, refl)
 
   pub headed-image : Headed (encode rs)
-  unfolding headed numbers
+  unfolding headed numbers versionOf
   headed-image =
       let a : 8 ≤ 8 + 16 * length rs = omega arith in
-      let v = carried rs few in
+      let v = carried (length rs) few in
       rw (marked .0, marked .1, marked .2, version, blank, counted, length-encode rs, v .0, v .1) (sym (search guards depth 12))
 
   module _ (m : AllSized rs) where

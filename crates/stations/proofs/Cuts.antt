@@ -9,8 +9,7 @@ use Rattle.ground.specs.Lists.{each}
 use Rattle.ground.proofs.Spans.{each-append}
 use Rattle.wire.specs.Be.{Bytes}
 use Rattle.stations.specs.Image.{bytesAt, stations, judged}
-use Rattle.stations.specs.Version.{versionOf}
-use Rattle.stations.specs.Encode.{recordOf, headerOf, encode}
+use Rattle.stations.specs.Encode.{recordOf, headerOf, versionOf, encode}
 use Rattle.stations.specs.declared.Station.{Station}
 use Rattle.stations.specs.declared.Judged.the-variants.{Table}
 use Rattle.stations.proofs.Table.{whole, length-stations}

@@ -11,8 +11,8 @@ use Rattle.ground.proofs.Guards.{past, or-was, not-was}
 use Rattle.ground.proofs.Order.{none, ahead}
 use Rattle.ground.proofs.Positions.{in-at}
 use Rattle.distance.specs.Distance.{latitudeOk, longitudeOk, Placed}
+use Rattle.versions.specs.Version.{top}
 use Rattle.stations.specs.Image.{stationAt, stations, version, verdict, scan, scanned, judged}
-use Rattle.stations.specs.Version.{top}
 use Rattle.stations.specs.declared.Station.{Station}
 use Rattle.stations.specs.declared.Verdict.the-variants.{Sound}
 use Rattle.stations.specs.declared.Judged.the-variants.{Table}

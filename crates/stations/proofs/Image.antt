@@ -11,12 +11,9 @@ use Rattle.wire.specs.Be.{Bytes, bytes}
 use Rattle.wire.proofs.Width.{bytes-be, cut, one-at}
 use Rattle.wire.proofs.Sign.{bytes-signed}
 use Rattle.stations.specs.Image.{stationAt, bytesAt, stations, version, judged}
-use Rattle.stations.specs.Version.{versionOf}
 use Rattle.stations.specs.Encode.{recordOf, headerOf, encode}
 use Rattle.stations.specs.declared.Judged.the-variants.{Table}
-use Rattle.stations.proofs.Versions.{called}
-use Rattle.stations.proofs.Table.{Whole, whole, next, done, length-stations}
-use Rattle.stations.proofs.Fine.{good}
+use Rattle.stations.proofs.Table.{Whole, whole, next, done, length-stations, version-called}
 
 module _ (s : List ℕ) (b : Bytes s) where
   -- a record that was read, as bytes again
@@ -82,8 +79,7 @@ module _ (s : List ℕ) (b : Bytes s) where
   unfolding encode
   image-of n e =
       let w = whole s n e in
-      let v : version s ≡ versionOf (stations s) = called (version s) (stations s) (w .versioned) (rw (length-stations w) (w .ranged)) (λ x m. good s n e .each x m .flags) in
-      rw (← v, length-stations w, header-bytes w, body-bytes w 0 (omega arith), take-append-drop)
+      rw (← version-called w, length-stations w, header-bytes w, body-bytes w 0 (omega arith), take-append-drop)
 
 -- one list of stations has one accepted image
 pub one-image : (s u : List ℕ) → Bytes s → Bytes u → (m n : ℕ) → judged s ≡ Table m → judged u ≡ Table n → stations s ≡ stations u → s ≡ u

@@ -1,7 +1,6 @@
 pub mod Ids
 pub mod Changed
 pub mod Pairs
-pub mod Versions
 pub mod Stages
 pub mod Table
 pub mod Longer

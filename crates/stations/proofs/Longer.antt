@@ -11,12 +11,12 @@ use Rattle.ground.specs.Guard.{given}
 use Rattle.refusals.specs.declared.Refusal.{Refusal}
 use Rattle.refusals.specs.Faults.{CountOver, LengthWrong}
 use Rattle.wire.proofs.Alike.{Alike, be-alike}
-use Rattle.stations.specs.Version.{carries, limit}
+use Rattle.versions.specs.Version.{carries, limit}
+use Rattle.versions.proofs.Versions.{few}
 use Rattle.stations.specs.Image.{version, count, faulty, numbers, headed, stages, judged}
 use Rattle.stations.specs.declared.Judged.the-variants.{Refused}
 use Rattle.stations.specs.declared.Verdict.{Verdict}
 use Rattle.stations.specs.declared.Verdict.the-variants.{Sound, Faulty}
-use Rattle.stations.proofs.Versions.{few}
 use Rattle.stations.proofs.Table.{whole-headed}
 
 -- longer than any table

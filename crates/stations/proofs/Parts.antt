@@ -14,13 +14,13 @@ use Rattle.ground.proofs.Order.{in-keep, ascending-keep}
 use Rattle.ground.proofs.Positions.{in-build}
 use Rattle.wire.specs.Be.{Bytes}
 use Rattle.wire.proofs.Width.{be-lt}
+use Rattle.versions.specs.Version.{top, limit}
+use Rattle.versions.proofs.Versions.{one-top}
 use Rattle.stations.specs.Image.{stationAt, stations, version, count, judged}
-use Rattle.stations.specs.Version.{top, limit, versionOf}
-use Rattle.stations.specs.Encode.{encode}
+use Rattle.stations.specs.Encode.{versionOf, encode}
 use Rattle.stations.specs.Lists.{hasId, insert, without, onto, ontoIf, rechannel}
 use Rattle.stations.specs.declared.Station.{Station}
 use Rattle.stations.specs.declared.Judged.the-variants.{Table}
-use Rattle.stations.proofs.Versions.{flags-carried}
 use Rattle.stations.proofs.Changed.{in-insert, ascends-insert, length-insert, in-rechannel, ascends-rechannel, length-rechannel}
 use Rattle.stations.proofs.Table.{whole, length-stations}
 use Rattle.stations.proofs.Fine.{Fine, Good, good}
@@ -38,7 +38,7 @@ valid v rs g few small =
       good = record {
         each = λ x m.
             let f = g .each x m in
-            record { counts = f .counts; low = f .low; high = f .high; class = f .class; flags = flags-carried v rs (λ y n. g .each y n .flags) x m; placed = f .placed };
+            record { counts = f .counts; low = f .low; high = f .high; class = f .class; flags = rw (one-top (versionOf rs) v) (f .flags); placed = f .placed };
         ascends = g .ascends;
       };
       few = few;

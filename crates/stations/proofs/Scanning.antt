@@ -6,9 +6,9 @@ use Prim.Native.Nat.{ℕ, _+_, _*_, _/_, _≤_, _<_}
 use native.Mathlib.Numerals.{add-one}
 use native.Mathlib.Omega.{arith}
 use Rattle.wire.specs.Be.{be}
+use Rattle.versions.specs.Version.{top}
 use Rattle.stations.specs.Image.{stationFrom, stationAt, version, count, verdict, scanned}
 use Rattle.stations.specs.Scanning.{idBefore, scannedFrom, Topped, Ahead, Passed}
-use Rattle.stations.specs.Version.{top}
 use Rattle.stations.specs.declared.Station.{Station}
 use Rattle.stations.specs.declared.Verdict.{Verdict}
 use Rattle.stations.specs.declared.Verdict.the-variants.{Sound}

@@ -13,12 +13,13 @@ use Rattle.ground.specs.Lists.{first}
 use Rattle.ground.proofs.Guards.{past, not-was, and-was}
 use Rattle.ground.proofs.Built.{length-build, drop-build}
 use Rattle.refusals.specs.declared.Refusal.{Refusal}
-use Rattle.stations.specs.Version.{known, carries, limit}
+use Rattle.versions.specs.Version.{known, carries, limit}
+use Rattle.versions.proofs.Versions.{few, called}
 use Rattle.stations.specs.Image.{stationAt, stations, version, count, verdict, scan, numbers, headed, judged, Headed}
+use Rattle.stations.specs.Encode.{versionOf}
 use Rattle.stations.specs.declared.Station.{Station}
 use Rattle.stations.specs.declared.Verdict.the-variants.{Sound, Faulty}
 use Rattle.stations.specs.declared.Judged.the-variants.{Table}
-use Rattle.stations.proofs.Versions.{few}
 use Rattle.stations.proofs.Stages.{unsound, counted, headed-passed}
 
 abbrev pub Marked : List ℕ → Type 0
@@ -37,6 +38,11 @@ module _ {s : List ℕ} {n : ℕ} (w : Whole s n) where
   pub length-stations : length (stations s) ≡ n
   unfolding stations
   length-stations = length-build (count s) (stationAt s) ∙ w .counted
+
+  -- the version is the one that the stations call for
+  pub version-called : version s ≡ versionOf (stations s)
+  unfolding versionOf
+  version-called = rw length-stations (called (version s) n (w .versioned) (w .ranged))
 
   -- the next record, and those after it
   pub next : (i : ℕ) → i < n → drop i (stations s) ≡ stationAt s i ∷ drop (i + 1) (stations s)

@@ -6,7 +6,7 @@ use mir.Syntax.{w32}
 use mir.Val.{ofZ}
 use Rattle.ground.specs.Lists.{each}
 use Rattle.wire.specs.Be.{bytes}
-use Rattle.stations.specs.Version.{versionOf}
+use Rattle.versions.specs.Version.{versionFor}
 use Rattle.stations.specs.declared.Station.{Station}
 
 -- the sixteen bytes of a record
@@ -17,6 +17,10 @@ recordOf r =
 -- `FMS`, the version, a zero byte, the count
 unfoldable pub headerOf : ℕ → ℕ → List ℕ
 headerOf v n = 70 ∷ 77 ∷ 83 ∷ (bytes 2 v ++ 0 ∷ bytes 2 n)
+
+-- the version that a list calls for
+unfoldable pub versionOf : List Station → ℕ
+versionOf rs = versionFor (length rs)
 
 unfoldable pub encode : List Station → List ℕ
 encode rs = headerOf (versionOf rs) (length rs) ++ each recordOf rs

@@ -12,7 +12,7 @@ use Rattle.ground.specs.Lists.{build}
 use Rattle.wire.specs.Be.{be}
 use Rattle.distance.specs.Distance.{latitudeOk, longitudeOk}
 use Rattle.refusals.specs.Faults.{Fault, refusal, UnderEightBytes, MarkDiffers, VersionUnknown, SixthByteSet, CountOver, LengthWrong, IdNotAscending, ChannelOutside, ClassOver, FlagsOver, LatitudeOutside, LongitudeOutside}
-use Rattle.stations.specs.Version.{known, carries, top}
+use Rattle.versions.specs.Version.{known, carries, top}
 use Rattle.stations.specs.declared.Station.{Station}
 use Rattle.stations.specs.declared.Judged.{Judged}
 use Rattle.stations.specs.declared.Judged.the-variants.{Table, Refused}

@@ -1,4 +1,3 @@
-pub mod Version
 pub mod Lists
 pub mod Image
 pub mod Scanning

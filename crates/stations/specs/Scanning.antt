@@ -5,8 +5,8 @@ use mathlib.Core.Bool.{Bool, true}
 use mathlib.Core.List.{List}
 use Prim.Native.Nat.{ℕ, zero, suc, _+_, _*_, _/_, _≤_}
 use lib.ListN.{drop}
+use Rattle.versions.specs.Version.{top}
 use Rattle.stations.specs.Image.{stationAt, stations, version, count, scan, scanned, Headed}
-use Rattle.stations.specs.Version.{top}
 use Rattle.stations.specs.declared.Verdict.{Verdict}
 
 -- the id before a position; 0 before the first

@@ -13,10 +13,10 @@ use crate::Station;
 use crate::Verdict;
 use crate::reading::count_of;
 use crate::reading::record_from;
-use crate::version::is_carried;
-use crate::version::is_known;
-use crate::version::top_of;
 use refusals::Refusal;
+use versions::is_carried;
+use versions::is_known;
+use versions::top_of;
 
 // A refusal of the header.
 fn wrong(number: u32) -> Verdict

@@ -1,7 +1,6 @@
 // The table image: judged in the paper's order, read by position, and written.
 mod judging;
 mod reading;
-mod version;
 mod writing;
 
 pub use judging::judge;
@@ -12,9 +11,6 @@ pub use reading::record_from;
 pub use reading::station_at;
 pub use reading::turns_end;
 use refusals::Refusal;
-pub use version::LIMIT;
-pub use version::is_full;
-pub use version::version_for;
 pub use writing::copy;
 pub use writing::put_header;
 pub use writing::put_station;

@@ -4,9 +4,9 @@ use Prim.Native.Nat.{ℕ, _+_, _*_, _≤_, _<_}
 use native.Mathlib.Omega.{arith}
 use lib.ListN.{length}
 use Rattle.spacing.specs.Reaching.{InRange}
+use Rattle.versions.proofs.Versions.{limit-small}
 use Rattle.stations.specs.Image.{stationAt, count, Accepted}
 use Rattle.stations.specs.declared.Station.{Station}
-use Rattle.stations.proofs.Versions.{limit-small}
 use Rattle.stations.proofs.Table.{whole}
 use Rattle.stations.proofs.Fine.{fine-at}
 use Rattle.survey.specs.Ways.{placeOf}
@@ -29,5 +29,6 @@ module _ (s : List ℕ) (e : Accepted s) where
   pub header-room : 8 ≤ length s
   header-room = omega (arith, whole s (count s) e .long)
 
-  pub few : count s ≤ 4000
+  -- its bytes are counted in 16 bits
+  pub few : 8 + 16 * count s < 65536
   few = omega (arith, whole s (count s) e .few, limit-small)

@@ -6,7 +6,7 @@ use lib.Dec.{leb}
 use lib.ListN.{length}
 use borrow.Author.Tests.{leb-false}
 use Rattle.ground.specs.Lists.{some}
-use Rattle.stations.specs.Version.{limit}
+use Rattle.versions.specs.Version.{limit}
 use Rattle.stations.specs.Image.{stations, judged}
 use Rattle.stations.specs.Lists.{hasId}
 use Rattle.stations.specs.declared.Judged.the-variants.{Table}

@@ -1,8 +1,7 @@
 -- `checks::list` meets its contract. Assumes nothing.
 use mathlib.Core.Path.{_≡_, refl, sym, ap, _∙_}
 use mathlib.Core.List.{List}
-use Prim.Native.Nat.{_*_, _≤_}
-use native.Mathlib.Nat.{le-trans}
+use Prim.Native.Nat.{_*_}
 use native.Mathlib.Omega.{arith}
 use lib.ListN.{length}
 use denote.Ref.{now}
@@ -10,9 +9,9 @@ use borrow.Author.Needs.{needs}
 use Rattle.ground.specs.Rows.{Row, flat}
 use Rattle.part73.specs.TableA.{tableA}
 use Rattle.spacing.specs.Pair.{sited}
+use Rattle.versions.specs.Version.{limit}
+use Rattle.versions.proofs.Versions.{limit-small}
 use Rattle.stations.specs.Image.{stationAt, stations}
-use Rattle.stations.specs.Version.{limit}
-use Rattle.stations.proofs.Versions.{limit-small}
 use Rattle.survey.specs.Ways.{studied}
 use Rattle.desk.proofs.Answers.{does-not-fit, written}
 use Rattle.checks.specs.Check.{rowOf, rowsFor}
@@ -20,9 +19,6 @@ use Rattle.nearby.proofs.Noted.{noted-few, noted-at}
 use Rattle.checks.proofs.Listing.{rows-noted, length-rows}
 use Rattle.checks.proofs.list.Statement.{statement}
 use Rattle.checks.proofs.list.Tie as tie
-
-few : (c : tie.After-note-short) → c .note-short .result ≤ 4000
-few c = le-trans (noted-few (c .note-short .ensures)) limit-small
 
 need : (c : tie.After-note-short) → let s = c .before .before .before .before in length (rowsFor (sited (s .args .place) (s .args .channel)) (studied (s .args .terms) (stations (now (s .args .table))))) ≡ 3 * c .note-short .result
 need c =
@@ -36,10 +32,10 @@ unfolding limit
 note-short-requires c κs = let s = c .before .before .before in record { accepted = s .pre .accepted; asked = s .pre .asked; placed = s .pre .placed; long = refl }
 
 mul-need : tie.Need-mul-need
-mul-need c = omega (arith, few c)
+mul-need c = omega (arith, noted-few (c .note-short .ensures), limit-small)
 
 cast-extra : tie.Need-cast-extra
-cast-extra c = omega (arith, few (c .before))
+cast-extra c = omega (arith, noted-few (c .before .note-short .ensures), limit-small)
 
 refused-with-requires : tie.Need-refused-with-requires
 refused-with-requires c κs = search needs
@@ -62,7 +58,7 @@ cast-count c =
     let m = r .before .before .before .before in
     let s = m .before .before .before .before in
     let w = rw (rows-noted _ (s .pre .accepted) (s .args .terms) (sited (s .args .place) (s .args .channel)) (m .note-short .ensures)) at (r .put-noted .ensures) in
-    omega (arith, w .next, need m, few m)
+    omega (arith, w .next, need m, noted-few (m .note-short .ensures), limit-small)
 
 same-length : tie.Need-same-length
 same-length c = search needs

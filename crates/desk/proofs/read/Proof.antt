@@ -1,10 +1,10 @@
 -- `desk::read` meets its contract. Assumes nothing.
 use mathlib.Core.Path.{_≡_, sym, ap, _∙_}
 use native.Mathlib.Omega.{arith}
+use Rattle.versions.proofs.Versions.{limit-small}
 use Rattle.stations.specs.Image.{judged}
 use Rattle.stations.specs.declared.Judged.the-variants.{Table}
 use Rattle.stations.proofs.Table.{whole}
-use Rattle.stations.proofs.Versions.{limit-small}
 use Rattle.desk.specs.Answers.{leave}
 use Rattle.desk.specs.Questions.{readOf}
 use borrow.Author.Needs.{needs}

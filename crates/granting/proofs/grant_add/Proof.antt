@@ -1,7 +1,7 @@
 -- `granting::grant_add` meets its contract. Assumes nothing.
 use native.Mathlib.Omega.{arith}
+use Rattle.versions.proofs.Versions.{limit-small}
 use Rattle.stations.proofs.Table.{whole}
-use Rattle.stations.proofs.Versions.{limit-small}
 use Rattle.granting.proofs.Plan.{insert-plan, insert-is}
 use borrow.Author.Needs.{needs}
 use Rattle.granting.proofs.grant_add.Statement.{statement}

@@ -1,7 +1,7 @@
 -- `granting::grant_with` meets its contract. Assumes nothing.
 use mathlib.Core.List.{[], _∷_}
 use native.Mathlib.Omega.{arith}
-use Rattle.stations.proofs.Versions.{limit-small}
+use Rattle.versions.proofs.Versions.{limit-small}
 use Rattle.granting.proofs.Plan.{small, no-room, room-with, granted-with}
 use borrow.Author.Needs.{needs}
 use Rattle.granting.proofs.grant_with.Statement.{statement}

@@ -4,8 +4,8 @@ use mathlib.Core.List.{[]}
 use Prim.Native.Nat.{_+_, _-_, _*_}
 use native.Mathlib.Omega.{arith}
 use lib.ListN.{length}
+use Rattle.versions.proofs.Versions.{limit-small}
 use Rattle.stations.proofs.Table.{whole}
-use Rattle.stations.proofs.Versions.{limit-small}
 use Rattle.granting.specs.Written.{Plan}
 use Rattle.granting.proofs.Plan.{without-plan, without-size, without-is, small, no-room, room-without, granted-without}
 use borrow.Author.Needs.{needs}

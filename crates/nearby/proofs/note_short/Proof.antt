@@ -7,8 +7,8 @@ use native.Mathlib.Omega.{arith}
 use denote.Ref.{now}
 use Rattle.part73.specs.TableA.{tableA}
 use Rattle.spacing.specs.Pair.{Assignment, sited}
+use Rattle.versions.specs.Version.{limit}
 use Rattle.stations.specs.Image.{count, Accepted}
-use Rattle.stations.specs.Version.{limit}
 use Rattle.stations.specs.declared.Station.{Station}
 use Rattle.stations.proofs.Table.{whole}
 use Rattle.survey.specs.Ways.{looked}

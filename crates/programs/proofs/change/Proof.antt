@@ -1,7 +1,7 @@
 -- `programs::change` meets its contract. Assumes nothing.
-use Rattle.stations.specs.Version.{limit}
 use Rattle.streams.proofs.Pieces.{tells-as}
 use Rattle.telling.proofs.Rooms.{within}
+use Rattle.versions.specs.Version.{limit}
 use Rattle.programs.proofs.Printing.{change-printed}
 use borrow.Author.Needs.{needs}
 use Rattle.programs.proofs.change.Statement.{statement}

@@ -1,7 +1,6 @@
 -- `reasons::begins_at` meets its contract. Assumes nothing.
 use mathlib.Core.Path.{sym, ap, _∙_}
-use Prim.Native.Nat.{ℕ, _+_, _*_, _≤_}
-use native.Mathlib.Nat.{le-trans}
+use Prim.Native.Nat.{ℕ, _+_, _*_, _<_}
 use native.Mathlib.Omega.{arith}
 use borrow.Author.Needs.{needs}
 use denote.Ref.{now}
@@ -14,11 +13,11 @@ use Rattle.reasons.proofs.begins_at.Tie as tie
 place-of-requires : tie.Need-place-of-requires
 place-of-requires c κs = search needs
 
-small : (c : tie.After-place-of) → c .place-of .result ≤ 4000
+small : (c : tie.After-place-of) → 8 + 16 * c .place-of .result < 65536
 small c =
     let s = c .before .before in
     let t = now (s .args .table) in
-    rw (c .place-of .ensures) (le-trans (place-le t (count t) (s .pre .accepted) (s .args .id)) (few t (s .pre .accepted)))
+    omega (arith, c .place-of .ensures, place-le t (count t) (s .pre .accepted) (s .args .id), few t (s .pre .accepted))
 
 mul-result : tie.Need-mul-result
 mul-result c = omega (arith, small c)

@@ -5,8 +5,8 @@ use denote.Ref.{now}
 use Rattle.ground.specs.Lists.{keep}
 use Rattle.part73.specs.TableA.{tableA}
 use Rattle.spacing.specs.Pair.{sited}
+use Rattle.versions.specs.Version.{limit}
 use Rattle.stations.specs.Image.{stations, count}
-use Rattle.stations.specs.Version.{limit}
 use Rattle.stations.proofs.Ids.{Ascends}
 use Rattle.survey.specs.Ways.{near, studied}
 use Rattle.survey.proofs.Studied.{studied-ascend}

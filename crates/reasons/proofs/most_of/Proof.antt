@@ -1,15 +1,14 @@
 -- `reasons::most_of` meets its contract: one walk over the noted positions. Assumes nothing.
 use mathlib.Core.Path.{_≡_, refl, sym, _∙_}
 use Prim.Native.Nat.{ℕ, _-_, _≤_}
-use native.Mathlib.Nat.{le-trans}
 use native.Mathlib.Omega.{arith}
 use lib.ListN.{length, take, drop}
 use denote.Ref.{now}
 use Rattle.part73.specs.TableA.{tableA}
 use Rattle.spacing.specs.Pair.{sited}
+use Rattle.versions.specs.Version.{limit}
+use Rattle.versions.proofs.Versions.{limit-small}
 use Rattle.stations.specs.Image.{stationAt}
-use Rattle.stations.specs.Version.{limit}
-use Rattle.stations.proofs.Versions.{limit-small}
 use Rattle.survey.proofs.Records.{few}
 use Rattle.neighbours.specs.Neighbours.{neighbourOf}
 use Rattle.neighbours.specs.declared.Neighbour.{Neighbour}
@@ -33,14 +32,11 @@ module _ (s : tie.Start Inv-loop μ-loop) where
   abbrev told : ℕ → Neighbour
   told j = neighbourOf tableA (sited (s .args .place) (s .args .channel)) (stationAt (now (s .args .table)) j)
 
-  small : s .args .k ≤ 4000
-  small = le-trans (s .pre .few) limit-small
-
 loop-holds : tie.Need-loop-holds Inv-loop μ-loop
 loop-holds c = (omega arith, refl)
 
 mul-i : tie.Need-mul-i Inv-loop μ-loop
-mul-i c = omega (arith, small (c .before .before .before))
+mul-i c = omega (arith, c .before .before .before .pre .few, limit-small)
 
 element-copy-out-i : tie.Need-element-copy-out-i Inv-loop μ-loop
 unfolding limit

@@ -1,8 +1,8 @@
 -- `telling::tell_change` meets its contract. Assumes nothing.
 use mathlib.Core.Path.{sym, ap}
 use native.Mathlib.Omega.{arith}
-use Rattle.stations.specs.Version.{limit}
 use Rattle.streams.proofs.Pieces.{tells-as}
+use Rattle.versions.specs.Version.{limit}
 use Rattle.telling.specs.Texts.{imageText}
 use Rattle.telling.specs.Told.{told}
 use Rattle.telling.proofs.Rooms.{granted}

@@ -1,7 +1,6 @@
 -- `checks::writing::put_noted` meets its contract. Assumes nothing.
 use mathlib.Core.List.{List, [], _∷_}
 use Prim.Native.Nat.{ℕ, _-_, _*_, _≤_}
-use native.Mathlib.Nat.{le-trans}
 use native.Mathlib.Omega.{arith}
 use lib.ListN.{length, getD, take}
 use denote.Ref.{now}
@@ -9,9 +8,9 @@ use Rattle.ground.specs.Rows.{Row, flat}
 use Rattle.ground.proofs.Writes.{Walking, walk-start, walk-turn, walk-end, walk-length}
 use Rattle.part73.specs.TableA.{tableA}
 use Rattle.spacing.specs.Pair.{Assignment, sited}
+use Rattle.versions.specs.Version.{limit}
+use Rattle.versions.proofs.Versions.{limit-small}
 use Rattle.stations.specs.Image.{stationAt}
-use Rattle.stations.specs.Version.{limit}
-use Rattle.stations.proofs.Versions.{limit-small}
 use Rattle.survey.proofs.Records.{few}
 use Rattle.checks.specs.Check.{rowOf}
 use Rattle.checks.specs.Positions.{rowsAt}
@@ -38,14 +37,11 @@ module _ (s : tie.Start Inv-loop μ-loop) where
   abbrev g : ℕ → Row
   g = rowAt (now (s .args .table)) (sited (s .args .place) (s .args .channel))
 
-  most : s .args .k ≤ 4000
-  most = le-trans (s .pre .few) limit-small
-
 loop-holds : tie.Need-loop-holds Inv-loop μ-loop
 loop-holds c = let s = c .before .before in (omega arith, omega arith, walk-start _ _ _ _ _ _ (rows-are (g s) _ _ (inside s)))
 
 mul-i : tie.Need-mul-i Inv-loop μ-loop
-mul-i c = omega (arith, most (c .before .before .before .before))
+mul-i c = omega (arith, c .before .before .before .before .pre .few, limit-small)
 
 element-copy-out-i : tie.Need-element-copy-out-i Inv-loop μ-loop
 unfolding limit
@@ -61,7 +57,7 @@ put-station-requires : tie.Need-put-station-requires Inv-loop μ-loop
 put-station-requires c κs =
     let l = c .before .before .before in
     let s = l .before .before .before in
-    record { beside = record { accepted = s .pre .accepted; placed = s .pre .placed; within = s .pre .each-one (l .loop .t) (omega arith) }; room = omega (arith, l .loop .inv .1, most s) }
+    record { beside = record { accepted = s .pre .accepted; placed = s .pre .placed; within = s .pre .each-one (l .loop .t) (omega arith) }; room = omega (arith, l .loop .inv .1, s .pre .few, limit-small) }
 
 add-t : tie.Need-add-t Inv-loop μ-loop
 add-t c = omega arith

@@ -7,9 +7,9 @@ use lib.ListN.{length}
 use denote.Ref.{now}
 use Rattle.ground.proofs.Guards.{not-was}
 use Rattle.wire.specs.Be.{be}
+use Rattle.versions.proofs.Versions.{limit-small}
 use Rattle.stations.specs.Scanning.{Ahead, Passed}
 use Rattle.stations.proofs.Table.{whole-headed}
-use Rattle.stations.proofs.Versions.{limit-small}
 use Rattle.stations.proofs.Scanning.{ahead-next, none-passed, more-passed}
 use Rattle.stations.proofs.judging.four_are_sound.Statement.{statement}
 use Rattle.stations.proofs.judging.four_are_sound.Tie as tie

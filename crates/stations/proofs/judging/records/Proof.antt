@@ -4,11 +4,11 @@ use Prim.Native.Nat.{ℕ, _+_, _-_, _*_, _/_, _≤_, _<_}
 use native.Mathlib.Omega.{arith}
 use lib.ListN.{drop}
 use borrow.Author.Needs.{needs}
+use Rattle.versions.specs.Version.{top as topOf}
+use Rattle.versions.proofs.Versions.{limit-small}
 use Rattle.stations.specs.Image.{stationAt, stations, version, count, verdict, scan, scanned}
 use Rattle.stations.specs.Scanning.{scannedFrom}
-use Rattle.stations.specs.Version.{top as topOf}
 use Rattle.stations.proofs.Table.{Whole, whole-headed, scan-on, scan-stop, scan-end}
-use Rattle.stations.proofs.Versions.{limit-small}
 use Rattle.stations.proofs.Scanning.{record-at}
 use Rattle.stations.proofs.judging.records.Statement.{statement}
 use Rattle.stations.proofs.judging.records.Tie as tie

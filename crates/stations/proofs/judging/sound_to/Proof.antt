@@ -3,10 +3,10 @@ use mathlib.Core.Path.{_≡_, refl, _∙_, ap}
 use Prim.Native.Nat.{_+_, _-_, _*_, _/_, _≤_, _<_}
 use native.Mathlib.Omega.{arith}
 use Rattle.ground.proofs.Guards.{not-was}
+use Rattle.versions.proofs.Versions.{limit-small}
 use Rattle.stations.specs.Image.{count, scanned}
 use Rattle.stations.specs.Scanning.{scannedFrom, Ahead, SoundTo}
 use Rattle.stations.proofs.Table.{Whole, whole-headed}
-use Rattle.stations.proofs.Versions.{limit-small}
 use Rattle.stations.proofs.Scanning.{ahead-next, sound-start}
 use Rattle.stations.proofs.judging.sound_to.Statement.{statement}
 use Rattle.stations.proofs.judging.sound_to.Tie as tie

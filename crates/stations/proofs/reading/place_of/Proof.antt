@@ -3,11 +3,11 @@ use mathlib.Core.Path.{_≡_, ap}
 use Prim.Native.Nat.{_+_, _-_, _/_, _≤_, _<_}
 use native.Mathlib.Omega.{arith}
 use Rattle.ground.specs.Lists.{first}
+use Rattle.versions.proofs.Versions.{limit-small}
 use Rattle.stations.specs.Image.{stationAt, stations, count}
 use Rattle.stations.specs.Lists.{fromId}
 use Rattle.stations.specs.declared.Station.{Station}
 use Rattle.stations.proofs.Table.{whole}
-use Rattle.stations.proofs.Versions.{limit-small}
 use Rattle.stations.proofs.Places.{place-le, below, not-below}
 use Rattle.stations.proofs.reading.place_of.Statement.{statement}
 use Rattle.stations.proofs.reading.place_of.Tie as tie

@@ -1,7 +1,7 @@
 // The versions of the image, and the lists that each carries.
 ghost use mathlib.Core.Path.{_≡_};
 ghost use lib.Dec.{leb};
-ghost use Rattle.stations.specs.Version.{known, carries, top, limit, Calls};
+ghost use Rattle.versions.specs.Version.{known, carries, top, limit, versionFor};
 
 // No list is longer.
 pub const LIMIT: usize = 2000;
@@ -36,7 +36,7 @@ pub fn is_full(n: usize) -> bool
 
 // The version that a list of n records calls for.
 pub fn version_for(n: usize) -> u16
-    ensures { λ r. ⌜ Calls n r ⌝ }
+    ensures { λ r. ⌜ r ≡ versionFor n ⌝ }
 {
     1
 }

@@ -1,12 +1,8 @@
 -- 01, The table image: the versions of the image, and the lists that each carries. All that a further version changes.
 -- Assumes nothing.
-use mathlib.Core.Path.{_≡_}
 use mathlib.Core.Bool.{Bool}
-use mathlib.Core.List.{List}
 use Prim.Native.Nat.{ℕ}
 use lib.Dec.{leb, eqb}
-use lib.ListN.{length}
-use Rattle.stations.specs.declared.Station.{Station}
 
 -- the paper has this version (else 3)
 unfoldable pub known : ℕ → Bool
@@ -24,10 +20,6 @@ carries v n = leb n limit
 unfoldable pub top : ℕ → ℕ
 top v = 1
 
--- the version that a list calls for
-unfoldable pub versionOf : List Station → ℕ
-versionOf rs = 1
-
--- inside: v is the version that every list of n records calls for
-pub record Calls (n v : ℕ) : Type 0 where
-  pub for : (rs : List Station) → length rs ≡ n → v ≡ versionOf rs
+-- the version that a list of so many records calls for
+unfoldable pub versionFor : ℕ → ℕ
+versionFor n = 1
