@@ -14,8 +14,8 @@
 #include <stdio.h>
 #include <stdlib.h>
 
-#if FMS_INTERFACE != 3
-#error "ask.c is written for interface 3 of fms.h"
+#if FMS_INTERFACE != 4
+#error "ask.c is written for interface 4 of fms.h"
 #endif
 
 /* One byte more than the longest table, so that a longer file is seen to be too long. */

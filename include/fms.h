@@ -28,8 +28,9 @@
 #include <stddef.h>
 #include <stdint.h>
 
-/* The number of this interface; a new function, or a change of what one takes, raises it. */
-#define FMS_INTERFACE 3
+/* The number of this interface. A new function raises it, and so does a change of what one takes: other words, or tables
+   of a further version, on which an answer may need more room. */
+#define FMS_INTERFACE 4
 
 #ifdef __cplusplus
 extern "C" {
@@ -67,9 +68,10 @@ enum fms_refusal {
     FMS_GRANTED = 0,
     FMS_TABLE_HEADER = 1,            /* the table has under 8 bytes */
     FMS_TABLE_MARK = 2,              /* it does not begin with FMS */
-    FMS_TABLE_VERSION = 3,           /* its version is not 1 */
+    FMS_TABLE_VERSION = 3,           /* its version is neither 1 nor 2 */
     FMS_TABLE_SIXTH_BYTE = 4,        /* its sixth byte is not 0 */
-    FMS_TABLE_COUNT = 5,             /* its count is over 2,000 */
+    FMS_TABLE_COUNT = 5,             /* its count is outside what its version carries: version 1 carries 0 to 2,000
+                                        stations, version 2 carries 2,001 to 4,000 */
     FMS_TABLE_LENGTH = 6,            /* its length is not 8 + 16 x count */
     FMS_RECORD_ID = 7,               /* id 0, or not above the one before; the position */
     FMS_RECORD_CHANNEL = 8,          /* channel outside 201 to 300; the position */
@@ -85,7 +87,7 @@ enum fms_refusal {
     FMS_ID_ZERO = 18,                /* add: id 0 */
     FMS_ID_PRESENT = 19,             /* add: id present; its position */
     FMS_SHORT = 20,                  /* add, move: short; the first short position */
-    FMS_TABLE_FULL = 21,             /* add: the table already holds 2,000 */
+    FMS_TABLE_FULL = 21,             /* add: the table already holds 4,000 */
     FMS_ROOM = 22,                   /* the answer does not fit; the exact room needed, in elements */
     FMS_ID_ABSENT = 23,              /* withdraw, move: no station has the id; check, reason, arrange: the nonzero id left
                                         aside is that of no station */
@@ -99,11 +101,14 @@ static inline uint32_t fms_number(uint64_t answer) { return (uint32_t)(answer >>
 /* The count, distance or byte of the table in a granted answer; a refusal's extra number. */
 static inline uint32_t fms_value(uint64_t answer) { return (uint32_t)(answer & 0xffffffffu); }
 
-/* The longest table: 2,000 stations. Room for the image after any change. */
-#define FMS_TABLE_MOST (8 + 16 * 2000)
+/* The most stations of a table. */
+#define FMS_STATIONS_MOST 4000
 
-/* The most numbers that fms_check writes: id, D and R of 2,000 stations. */
-#define FMS_CHECK_MOST (3 * 2000)
+/* The longest table, of so many stations. Room for the image after any change. */
+#define FMS_TABLE_MOST (8 + 16 * FMS_STATIONS_MOST)
+
+/* The most numbers that fms_check writes: id, D and R of so many stations. */
+#define FMS_CHECK_MOST (3 * FMS_STATIONS_MOST)
 
 /* The most numbers that fms_arrange writes: three for each of 79 moves on 80 channels. */
 #define FMS_ARRANGE_MOST (3 * 79 * 80)
@@ -113,6 +118,9 @@ uint64_t fms_read(const uint8_t *table, size_t table_len);
 
 /* The rounded distance between two sites, 0 to 475 km. */
 uint64_t fms_distance(int32_t lat1, int32_t lon1, int32_t lat2, int32_t lon2);
+
+/* The next three write the image of the new table. Its version is the one that carries its count of stations, so fms_add
+   to 2,000 stations writes version 2, and fms_withdraw from 2,001 writes version 1. */
 
 /* The table with a station set in at its place by id, not fixed; gives the image's bytes. */
 uint64_t fms_add(const uint8_t *table, size_t table_len, uint32_t id, uint32_t channel, uint32_t station_class,

@@ -1,6 +1,7 @@
 #!/bin/sh
-# c.sh: compiles examples/ask.c, as C and as C++, against include/fms.h and target/staticlib/libfms.a, and holds what it
-# prints against examples/ask.out. Skips with a line where a compiler, an x86-64 machine or the archive is not to be had.
+# c.sh: compiles examples/ask.c, as C and as C++, against include/fms.h and target/staticlib/libfms.a, holds what it prints
+# against examples/ask.out, and asks it about as many stations as fms.h has room for, all of them short. Skips with a line
+# where a compiler, an x86-64 machine or the archive is not to be had.
 set -u
 root=$(cd "$(dirname "$0")/.." && pwd -P)
 archive=$root/target/staticlib/libfms.a
@@ -47,6 +48,16 @@ examples/absent.fms 270 3 3 150312 -166830
 ASKS
 }
 
+# As many stations as a table holds, and whether a program answers on it: all are short, their lines end with the last, the
+# reason follows with its record, and 78 free channels.
+sh "$root/tests/crowd.sh" 2 4000 >"$room/full.fms"
+answers_full() { # PROGRAM
+    [ "$("$1" "$room/full.fms" 254 0 3 0 0 | sed -n '1p;4001p;4002p;$=')" = 'short 4000
+4000 2 10
+1 0 10 3
+4081' ]
+}
+
 # Compiles ask.c with a compiler's words, and holds what it prints.
 passed=0 failed=0
 try() { # NAME COMPILER WORDS
@@ -56,11 +67,14 @@ try() { # NAME COMPILER WORDS
         sed 1q "$room/said"
         printf 'FAILED: ask.c does not compile as %s\n' "$name"
         failed=$((failed + 1))
-    elif asks "$room/ask" >"$room/out" && cmp "$room/out" "$root/examples/ask.out"; then
-        passed=$((passed + 1))
-    else
+    elif ! { asks "$room/ask" >"$room/out" && cmp "$room/out" "$root/examples/ask.out"; }; then
         printf 'FAILED: ask as %s prints something else than examples/ask.out\n' "$name"
         failed=$((failed + 1))
+    elif ! answers_full "$room/ask"; then
+        printf 'FAILED: ask as %s has other answers on 4,000 stations\n' "$name"
+        failed=$((failed + 1))
+    else
+        passed=$((passed + 1))
     fi
 }
 try C "$cc" -std=c99 -Wall -Wextra -Werror -x c

@@ -64,9 +64,8 @@ printf '%b' "$head1"'\0000\0000\0000\0007\0001\0004\0000\0000\0000\0000\0000\000
 printf '%b' 'FMS\0000\0001\0000\0000' >bad1.fms
 : >bad1-empty.fms
 printf '%b' "FMT\0000\0001\0000\0000\0001$seven" >bad2.fms
-printf '%b' "FMS\0000\0002\0000\0000\0001$seven" >bad3.fms
+printf '%b' "FMS\0000\0003\0000\0000\0001$seven" >bad3.fms
 printf '%b' "FMS\0000\0001\0001\0000\0001$seven" >bad4.fms
-printf '%b' "FMS\0000\0001\0000\0007\0321$seven" >bad5.fms
 printf '%b' "$head1$seven\0000" >bad6.fms
 printf '%b' "FMS\0000\0001\0000\0000\0002$seven$seven" >bad7.fms
 printf '%b' "$head1"'\0000\0000\0000\0007\0001\0055\0000\0000\0000\0000\0000\0000\0000\0000\0000\0000' >bad8.fms
@@ -74,14 +73,19 @@ printf '%b' "$head1"'\0000\0000\0000\0007\0000\0372\0010\0000\0000\0000\0000\000
 printf '%b' "$head1"'\0000\0000\0000\0007\0000\0372\0000\0002\0000\0000\0000\0000\0000\0000\0000\0000' >bad10.fms
 printf '%b' "$head1"'\0000\0000\0000\0007\0000\0372\0000\0000\0377\0373\0341\0117\0000\0000\0000\0000' >bad11.fms
 printf '%b' "$head1"'\0000\0000\0000\0007\0000\0372\0000\0000\0000\0000\0000\0000\0000\0011\0343\0101' >bad12.fms
-# Two thousand stations on channel 201 at one site, ids 1 to 2000.
+# As many stations as version 1 carries; with one more, as few as version 2 carries; as many as a table holds; and what no
+# version carries.
+crowd() { sh "$root/tests/crowd.sh" "$@"; }
+crowd 1 2000 >most1.fms
 {
-    printf '%b' 'FMS\0000\0001\0000\0007\0320'
-    awk 'BEGIN { for (i = 1; i <= 2000; i++) {
-            printf "\\0000\\0000\\0%03o\\0%03o\\0000\\0311\\0000\\0000", int(i / 256), i % 256
-            print "\\0000\\0000\\0000\\0000\\0000\\0000\\0000\\0000" } }' </dev/null |
-        while IFS= read -r part; do printf '%b' "$part"; done
-} >full.fms
+    printf '%b' 'FMS\0000\0002\0000\0007\0321'
+    tail -c +9 most1.fms
+    printf '%b' '\0000\0000\0007\0321\0000\0372\0007\0000\0000\0000\0000\0001\0377\0377\0377\0377'
+} >least2.fms
+crowd 2 4000 >full.fms
+crowd 1 2001 >bad5.fms
+crowd 2 2000 >bad5-under.fms
+crowd 2 4001 >bad5-over.fms
 # A fixed station (id 8), one on channel 220 (id 9), and a movable one with every number at its end (id 4294967295).
 {
     printf '%b' 'FMS\0000\0001\0000\0000\0003'
@@ -161,7 +165,7 @@ fm show: the stations of a table
 
 Each stands in a line: position, id, channel, class, whether it may move, site.
 
-  TABLE    a file of stations; it is only read
+  TABLE    a file of up to 4,000 stations; it is only read
 
 Refuses: a damaged table (1 to 12).
 SAYS
@@ -186,7 +190,7 @@ fm why: why a channel is blocked, or that it is clear
 
 The station that is short by most (of equals the lowest id), and what 47 CFR 73.207 asks between the two.
 
-  TABLE    a file of stations; it is only read
+  TABLE    a file of up to 4,000 stations; it is only read
   ID       the station's number, from 1
   CHANNEL  221 to 300
   CLASS    A, B1, B, C3, C2, C1, C0 or C
@@ -265,6 +269,9 @@ Channel 299 is not acceptable for class C in zone II at 74-59-59S 179-59-59E:
 1 station is short.
   station 4294967295 on 300 (class C)  is   0 km away and should be 241 km: short by 241 km
 SAYS
+hold "check: 4,000 stations are short" [ "$("$fm" check full.fms 254 A II 0 0 | sed -n '2p;$p;$=')" = '4000 stations are short.
+  station 4000 on 201 (class A)  is   2 km away and should be  10 km: short by 8 km
+4002' ]
 for class in A B1 B b1 b; do
     try 0 check empty.fms 221 "$class" I 0 0 --raw <<'SAYS'
 short 0
@@ -314,7 +321,7 @@ for channel in 246 254 300; do
 clear
 SAYS
 done
-# The larger shortfall, first of the lower id and then of the higher; of two thousand equal ones the lowest id.
+# The larger shortfall, first of the lower id and then of the higher; of many equal ones the lowest id.
 "$fm" add one.fms pair.fms 9 253 A II 0 987 >/dev/null
 for words in '7 31 72 1:251 A II 0 987' '9 3 72 1:252 A II 0 900'; do
     # shellcheck disable=SC2086
@@ -522,7 +529,9 @@ position          id  channel  class  move         latitude  longitude
        1           9      220  C2     not movable  40-44-54N 073-59-09W
        2  4294967295      300  C      movable      75-00-00S 180-00-00E
 SAYS
-hold "show: 2,000 stations" [ "$("$fm" show full.fms | wc -l)" -eq 2002 ]
+hold "show: 4,000 stations" [ "$("$fm" show full.fms | sed -n '1p;$p;$=')" = '4000 stations
+    3999        4000      201  A      not movable  00-00-32N 000-01-02E
+4002' ]
 
 # ---- distance
 try 0 distance 0 0 0 3600 <<'SAYS'
@@ -598,6 +607,25 @@ try 0 withdraw --raw one.fms 'a new table.fms' 7 <<'SAYS'
 SAYS
 hold "--raw: the table is written" cmp -s 'a new table.fms' empty.fms
 rm -f new.fms back.fms ./-new.fms ./-gone.fms 'a new table.fms' folder/moved.fms
+# Over the line between the versions and back; from the most stations down, and up again.
+try 0 add most1.fms new.fms 2001 250 C II 1 -1 <<'SAYS'
+Station 2001 is entered on channel 250, class C. new.fms has 2001 stations.
+SAYS
+hold "add to 2,000 stations writes version 2" cmp -s new.fms least2.fms
+try 0 withdraw least2.fms back.fms 2001 <<'SAYS'
+Station 2001 is withdrawn. back.fms has 2000 stations.
+SAYS
+hold "withdraw from 2,001 stations writes version 1" cmp -s back.fms most1.fms
+rm -f new.fms back.fms
+try 0 withdraw full.fms new.fms 4000 <<'SAYS'
+Station 4000 is withdrawn. new.fms has 3999 stations.
+SAYS
+crowd 2 3999 | cmp -s - new.fms
+hold "withdraw from 4,000 stations writes version 2" [ $? -eq 0 ]
+try 0 add new.fms back.fms 4000 250 C II 1 -1 <<'SAYS'
+Station 4000 is entered on channel 250, class C. back.fms has 4000 stations.
+SAYS
+rm -f new.fms back.fms
 
 # ---- names of tables
 try 2 check absent.fms 250 A II 0 0 <<'SAYS'
@@ -701,9 +729,15 @@ SAYS
 damage 1 bad1.fms "bad1.fms has under 8 bytes, less than a table's header"
 damage 1 bad1-empty.fms "bad1-empty.fms has under 8 bytes, less than a table's header"
 damage 2 bad2.fms 'bad2.fms does not begin with the mark FMS, so it is no table of stations'
-damage 3 bad3.fms 'bad3.fms is not of version 1'
+damage 3 bad3.fms 'bad3.fms is of version 3, where only 1 and 2 have a meaning'
 damage 4 bad4.fms 'the sixth byte of bad4.fms is not 0'
-damage 5 bad5.fms 'the header of bad5.fms counts more than 2,000 stations'
+carried='where version 1 goes with 0 to 2,000 stations and version 2 with 2,001 to 4,000'
+damage 5 bad5.fms "the header of bad5.fms has version 1 and the count 2001, $carried"
+for words in '2000 bad5-under.fms' '4001 bad5-over.fms'; do
+    try 1 show "${words#* }" <<SAYS
+fm: refused with number 5: the header of ${words#* } has version 2 and the count ${words% *}, $carried. $anew
+SAYS
+done
 damage 6 bad6.fms 'bad6.fms is not as long as its count of stations asks (8 bytes, and 16 for each): it was cut, or something hangs on'
 damage 7 bad7.fms 'record 1 of bad7.fms, counted from 0, has id 7, which is 0 or not above the one before'
 damage 8 bad8.fms 'record 0 of bad8.fms, counted from 0, has channel 301, outside 201 to 300'
@@ -749,8 +783,8 @@ try 1 move pair.fms new.fms 9 250 <<'SAYS'
 fm: refused with number 20: on channel 250 it would be short to station 7 (channel 250, class A), record 0 of pair.fms counted from 0, and perhaps to later ones.
 SAYS
 rm -f pair.fms
-try 1 add full.fms new.fms 2001 250 A II 0 0 <<'SAYS'
-fm: refused with number 21: full.fms already holds 2,000 stations, and no table holds more. Withdraw one first.
+try 1 add full.fms new.fms 4001 250 A II 0 0 <<'SAYS'
+fm: refused with number 21: full.fms already holds 4,000 stations, and no table holds more. Withdraw one first.
 SAYS
 for id in 0 8 4294967295; do
     try 1 withdraw one.fms new.fms "$id" <<SAYS
@@ -978,6 +1012,7 @@ SAYS
 }
 no_answer fm_check 'check one.fms 250 A II 0 0' 'echo hello' 'echo short 1' 'echo short 0; echo 7 1 2' 'echo short 1; echo 8 1 2' ':' \
     'echo refused 26 0' 'echo refused 13' 'echo refused x 0'
+no_answer fm_check 'check bad1-empty.fms 250 A II 0 0' 'echo refused 3 0' 'echo refused 5 0'
 answers fm_check 'exit 7'
 try 3 check one.fms 250 A II 0 0 <<'SAYS'
 fm: fm_check ended with status 7 and gave no answer
@@ -1002,9 +1037,9 @@ answers fm_check 'echo refused 15 0'
 try 1 check one.fms 250 A II 0 0 <<'SAYS'
 fm: refused with number 15: the zone has a code that is not 1, 2 or 3. Give I, I-A or II.
 SAYS
-answers fm_check 'echo refused 22 6003'
+answers fm_check 'echo refused 22 12003'
 try 1 check one.fms 250 A II 0 0 <<'SAYS'
-fm: refused with number 22: the answer needs room for 6003, more than the program has. This should not happen: report it.
+fm: refused with number 22: the answer needs room for 12003, more than the program has. This should not happen: report it.
 SAYS
 answers fm_check 'echo refused 24 0'
 try 1 check one.fms 250 A II 0 0 <<'SAYS'

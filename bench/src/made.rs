@@ -278,6 +278,21 @@ pub fn column_of(difference: u32) -> usize {
     columns.next().expect("a difference that has a column").0
 }
 
+/// Versions, each with a count outside of its range.
+pub const WRONG_COUNTS: [(u16, u16); 11] = [
+    (1, 2_001),
+    (1, 2_002),
+    (1, 4_000),
+    (1, 4_001),
+    (1, 65_535),
+    (2, 0),
+    (2, 1),
+    (2, 1_999),
+    (2, 2_000),
+    (2, 4_001),
+    (2, 65_535),
+];
+
 /// The refusals that a damaged table can get.
 pub const DAMAGES: std::ops::RangeInclusive<u32> = 1..=12;
 
@@ -290,13 +305,20 @@ pub fn damaged(chance: &mut Chance, table: &[u8], number: u32) -> Vec<u8> {
     match number {
         1 => table.truncate(chance.from(0, 7) as usize),
         2 => table[chance.from(0, 2) as usize] ^= bit,
-        3 => table[chance.from(3, 4) as usize] ^= bit,
+        3 => {
+            let version =
+                chance.one_of(&[0u16, 3, 5, 129, 256, 257, 258, 512, 513, 32_770, 65_535]);
+            put(&mut table, 3, &version.to_be_bytes());
+        }
         4 => table[5] ^= bit,
+        // The other version for the count that it has.
+        5 if chance.once_in(2) => table[4] ^= 1 ^ 2,
         5 => {
-            let count = chance.one_of(&[2_001, 2_002, 4_000, 65_535]);
-            put(&mut table, 6, &(count as u16).to_be_bytes());
+            let (version, count) = chance.one_of(&WRONG_COUNTS);
+            put(&mut table, 3, &version.to_be_bytes());
+            put(&mut table, 6, &count.to_be_bytes());
             if chance.once_in(2) {
-                table.resize(8 + 16 * count, 0);
+                table.resize(8 + 16 * usize::from(count), 0);
             }
         }
         6 => {

@@ -2,6 +2,7 @@
 
 use crate::question::{Answer, Lent, Proposal, Question};
 use std::cmp::Reverse;
+use std::ops::RangeInclusive;
 
 /// One record of a table.
 #[derive(Clone, Copy, Debug, PartialEq, Eq)]
@@ -182,6 +183,12 @@ fn number(bytes: &[u8]) -> u32 {
         .fold(0, |so_far, &byte| so_far << 8 | u32::from(byte))
 }
 
+/// The longest list that has an image.
+const LIMIT: usize = 4_000;
+
+/// The versions of an image, each with the counts that it carries.
+const VERSIONS: [(u16, RangeInclusive<usize>); 2] = [(1, 0..=2_000), (2, 2_001..=LIMIT)];
+
 /// The stations of a table, or its refusal.
 fn judge(table: &[u8]) -> Result<Vec<Station>, Refusal> {
     if table.len() < 8 {
@@ -190,14 +197,15 @@ fn judge(table: &[u8]) -> Result<Vec<Station>, Refusal> {
     if &table[0..3] != b"FMS" {
         return refuse(2, 0);
     }
-    if number(&table[3..5]) != 1 {
+    let version = number(&table[3..5]);
+    let Some((_, counts)) = VERSIONS.iter().find(|&&(one, _)| u32::from(one) == version) else {
         return refuse(3, 0);
-    }
+    };
     if table[5] != 0 {
         return refuse(4, 0);
     }
     let count = number(&table[6..8]) as usize;
-    if count > 2_000 {
+    if !counts.contains(&count) {
         return refuse(5, 0);
     }
     if table.len() != 8 + 16 * count {
@@ -240,10 +248,19 @@ fn judge(table: &[u8]) -> Result<Vec<Station>, Refusal> {
     Ok(stations)
 }
 
-/// The image of a list of stations.
+/// The image of a list of stations, in the one version that carries its count.
 pub fn image_of(stations: &[Station]) -> Vec<u8> {
+    let mut versions = VERSIONS.iter();
+    let (version, _) = versions
+        .find(|(_, counts)| counts.contains(&stations.len()))
+        .expect("a list of at most 4,000");
+    image_in(*version, stations)
+}
+
+/// The bytes of an image with a version, right or wrong, and a list of stations.
+pub fn image_in(version: u16, stations: &[Station]) -> Vec<u8> {
     let mut image = b"FMS".to_vec();
-    image.extend(1u16.to_be_bytes());
+    image.extend(version.to_be_bytes());
     image.push(0);
     image.extend((stations.len() as u16).to_be_bytes());
     for station in stations {
@@ -324,7 +341,7 @@ fn added(table: &[u8], id: u32, channel: u32, proposal: &Proposal) -> Result<Vec
     if let Some(&position) = short_to(&stations, &station, None).first() {
         return refuse(20, position);
     }
-    if stations.len() == 2_000 {
+    if stations.len() == LIMIT {
         return refuse(21, 0);
     }
     stations.push(station);

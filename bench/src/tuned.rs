@@ -7,6 +7,10 @@ use crate::question::{Answer, Lent, Proposal, Question};
 const HEADER: usize = 8;
 const RECORD: usize = 16;
 
+/// The most stations of a table of version 1, and of one of version 2.
+const LINE: u16 = 2_000;
+const LIMIT: u16 = 4_000;
+
 /// The sixteen bytes of a station.
 type Record = [u8; RECORD];
 
@@ -186,17 +190,19 @@ fn judge<const BOX: bool>(table: &[u8]) -> Outcome<&[Record]> {
     if header[..3] != *b"FMS" {
         return Err(refusal(2, 0));
     }
-    if header[3..5] != [0, 1] {
-        return Err(refusal(3, 0));
-    }
+    let count = u16::from_be_bytes([header[6], header[7]]);
+    let carried = match [header[3], header[4]] {
+        [0, 1] => count <= LINE,
+        [0, 2] => count > LINE && count <= LIMIT,
+        _ => return Err(refusal(3, 0)),
+    };
     if header[5] != 0 {
         return Err(refusal(4, 0));
     }
-    let count = usize::from(u16::from_be_bytes([header[6], header[7]]));
-    if count > 2_000 {
+    if !carried {
         return Err(refusal(5, 0));
     }
-    if records.len() != RECORD * count {
+    if records.len() != RECORD * usize::from(count) {
         return Err(refusal(6, 0));
     }
     let (records, _) = records.as_chunks();
@@ -686,8 +692,9 @@ fn put_image(parts: [&[Record]; 3], image: &mut [u8]) -> Outcome<usize> {
     if image.len() < need {
         return Err(refusal(22, need));
     }
+    let version = 1 + u8::from(count > usize::from(LINE));
     let [high, low] = (count as u16).to_be_bytes();
-    image[..HEADER].copy_from_slice(&[b'F', b'M', b'S', 0, 1, 0, high, low]);
+    image[..HEADER].copy_from_slice(&[b'F', b'M', b'S', 0, version, 0, high, low]);
     let mut at = HEADER;
     for part in parts {
         let bytes = part.as_flattened();
@@ -718,7 +725,7 @@ fn add<const BOX: bool>(
     if let Some((position, ..)) = held.short(records).next() {
         return Err(refusal(20, position));
     }
-    if records.len() == 2_000 {
+    if records.len() == usize::from(LIMIT) {
         return Err(refusal(21, 0));
     }
     let mut record = [0; RECORD];

@@ -2,12 +2,12 @@
 
 mod common;
 
-use common::{agree, agree_in, class_a, ROWS};
+use common::{agree, agree_in, class_a, dense, LIMIT, LINE, ROWS};
 use fms_bench::made::{
     column_of, damaged, proposal_in, region, region_proposals, scene, scene_of, Area, Chance,
-    Manner, Scene, DAMAGES, LEVEL, MANNERS,
+    Manner, Scene, DAMAGES, DIFFERENCES, LEVEL, MANNERS,
 };
-use fms_bench::naive::{image_of, Station};
+use fms_bench::naive::{image_in, image_of, Station};
 use fms_bench::question::{Answer, Proposal, Question};
 
 /// A proposal near the stations; in one case of eight a wrong one.
@@ -147,16 +147,22 @@ fn checked(table: &[u8], channel: u32, proposal: Proposal, aside: u32) -> Vec<[u
     rows.to_vec()
 }
 
-/// Stations of every manner: mostly few, at times many, or as many as there can be and asked about from anywhere; at times all of
-/// one class, or on one channel, or with the highest id.
+/// A scene of as many stations as a version can carry, or of the fewest that version 2 can.
+fn long_scene(chance: &mut Chance, manner: Manner) -> Scene {
+    let count = chance.one_of(&[LINE, LINE + 1, LIMIT]);
+    scene_of(chance, manner, count)
+}
+
+/// Stations of every manner: mostly few, at times many, or a long scene that is asked about from anywhere; at times all of one
+/// class, or on one channel, or with the highest id.
 fn any_scene(chance: &mut Chance, turn: usize) -> Scene {
     let manner = MANNERS[turn % MANNERS.len()];
     let mut scene = match chance.from(1, 400) {
         1 => Scene {
             area: Area::around(chance.from(-270_000, 270_000), 0, 648_000),
-            ..scene_of(chance, manner, 2_000)
+            ..long_scene(chance, manner)
         },
-        2 => scene(chance, manner, 2_000),
+        2 => scene(chance, manner, LIMIT),
         3..=13 => scene(chance, manner, 300),
         _ => {
             let most = chance.one_of(&[0, 1, 2, 5, 12, 30]);
@@ -196,6 +202,13 @@ fn any_table(chance: &mut Chance, scene: &Scene) -> Vec<u8> {
     table
 }
 
+/// An Arrange of one channel: a wide range on a long table takes the naive desk too long.
+fn narrow(question: &mut Question) {
+    if let Question::Arrange { first, last, .. } = question {
+        *last = *first;
+    }
+}
+
 /// Made questions of every kind, the same in every run: as many as the variable FMS_QUESTIONS says, else 100,000. Each is asked
 /// with ample room and, where it is granted, again with exactly the room it needs, with more, with one place less and with none.
 #[test]
@@ -213,11 +226,8 @@ fn made_questions() {
             if asked == count {
                 break 'asking;
             }
-            if let Question::Arrange { first, last, .. } = &mut question {
-                // A wide range on a long table takes the naive desk too long.
-                if scene.stations.len() > 60 {
-                    *last = *first;
-                }
+            if scene.stations.len() > 60 {
+                narrow(&mut question);
             }
             match agree(&question, &table).answer {
                 Answer::Granted(told) => {
@@ -254,7 +264,10 @@ fn damaged_tables() {
         let mut met = 0;
         for turn in 0..400 {
             let manner = MANNERS[turn % MANNERS.len()];
-            let scene = scene(&mut chance, manner, 40);
+            let scene = match turn % 20 {
+                0 => long_scene(&mut chance, manner),
+                _ => scene(&mut chance, manner, 40),
+            };
             let table = damaged(&mut chance, &scene.table(), number);
             for question in questions(&mut chance, &scene) {
                 if let Answer::Refused { number: found, .. } = agree(&question, &table).answer {
@@ -287,30 +300,32 @@ fn twice_damaged_tables() {
     }
 }
 
-/// A table of a region with 2,000 stations: Check and the reason on every channel, with nobody and with each short station left
-/// aside; Arrange over the whole range, with nobody and with the nearest of them.
+/// Tables of a region with 2,000 and with 4,000 stations: Check and the reason on every channel, with nobody and with each short
+/// station left aside; Arrange over the whole range, with nobody and with the nearest of them.
 #[test]
-fn a_region_of_2000() {
-    let table = region(1, 2_000);
-    for proposal in region_proposals(2, 6) {
-        let mut nearest = None;
-        for channel in 221..=300 {
-            let short = checked(&table, channel, proposal, 0);
-            for (place, &[id, d, _]) in short.iter().enumerate() {
-                let others = [&short[..place], &short[place + 1..]].concat();
-                assert_eq!(checked(&table, channel, proposal, id), others);
-                nearest = nearest.into_iter().chain([(d, id)]).min();
+fn full_regions() {
+    for (count, sites) in [(LINE, 6), (LIMIT, 3)] {
+        let table = region(1, count);
+        for proposal in region_proposals(2, sites) {
+            let mut nearest = None;
+            for channel in 221..=300 {
+                let short = checked(&table, channel, proposal, 0);
+                for (place, &[id, d, _]) in short.iter().enumerate() {
+                    let others = [&short[..place], &short[place + 1..]].concat();
+                    assert_eq!(checked(&table, channel, proposal, id), others);
+                    nearest = nearest.into_iter().chain([(d, id)]).min();
+                }
             }
-        }
-        let (_, nearest) = nearest.expect("somebody is short");
-        for aside in [0, nearest] {
-            let question = Question::Arrange {
-                first: 221,
-                last: 300,
-                proposal,
-                aside,
-            };
-            agree_in(&question, &table, 0, ROWS);
+            let (_, nearest) = nearest.expect("somebody is short");
+            for aside in [0, nearest] {
+                let question = Question::Arrange {
+                    first: 221,
+                    last: 300,
+                    proposal,
+                    aside,
+                };
+                agree_in(&question, &table, 0, ROWS);
+            }
         }
     }
 }
@@ -409,26 +424,142 @@ fn equal_shortfalls() {
     assert!(several > asked / 2 && unlike > asked / 3);
 }
 
-/// Of 2,000 stations one is nearer by 3 km: it is the reason wherever it stands, and the first other one where it is left aside.
+/// Of many stations, all short and no two at one site, one is nearer by 3 km: it is the reason wherever it stands, and the first
+/// other one where it is left aside.
 #[test]
-fn one_of_2000() {
-    for nearer in [0, 1, 2, 3, 4, 999, 1_998, 1_999] {
-        let station = |position| Station {
-            id: 10 * position + 7,
+fn one_of_many() {
+    for (count, places) in [
+        (LINE, &[0, 1, 2, 3, 4, 999, 1_998, 1_999][..]),
+        (LINE + 1, &[0, 1_999, 2_000]),
+        (LIMIT, &[0, 1_999, 2_000, 2_001, 3_998, 3_999]),
+    ] {
+        for &nearer in places {
+            let mut stations = dense(count, 1_000);
+            stations[nearer].lon = 900;
+            let table = image_of(&stations);
+            let Station { id, .. } = stations[nearer];
+            for (aside, position, d) in [(0, nearer, 28), (id, usize::from(nearer == 0), 31)] {
+                let rows = checked(&table, 250, class_a(0, 0), aside);
+                assert_eq!(rows.len(), count - usize::from(aside != 0));
+                let first = [stations[position].id, d, 115];
+                assert_eq!(worst(&rows)[0], first);
+            }
+        }
+    }
+}
+
+/// A full table of which every station is short, of all classes and in all columns: Check needs 12,000 numbers, and three less with
+/// one left aside.
+#[test]
+fn all_of_4000() {
+    let mut chance = Chance::new(22);
+    let mut stations = dense(LIMIT, 100);
+    for station in &mut stations {
+        let (_, difference) = chance.one_of(&DIFFERENCES);
+        station.channel = LEVEL - difference;
+        station.class = chance.from(0, 7) as u32;
+    }
+    let table = image_of(&stations);
+    let check = agree(&Question::check(LEVEL, class_a(0, 0), 0), &table);
+    assert_eq!(check.answer, Answer::Granted(3 * LIMIT as u32));
+    let whole = checked(&table, LEVEL, class_a(0, 0), 0);
+    let equal = worst(&whole);
+    let places = [0, LINE - 1, LINE, LIMIT - 1].map(|position| whole[position]);
+    for [aside, ..] in [equal[0], equal[1]].into_iter().chain(places) {
+        let mut rows = whole.clone();
+        rows.retain(|[id, ..]| *id != aside);
+        assert_eq!(checked(&table, LEVEL, class_a(0, 0), aside), rows);
+    }
+}
+
+/// Sets the last station of a scene apart, where it is short to nobody on any channel: its id, and a proposal as far from all.
+fn last_apart(scene: &mut Scene) -> (u32, Proposal) {
+    let north = scene.area.lat.0 > 0;
+    let lat = if north { -100_000 } else { 100_000 };
+    let last = scene.stations.last_mut().expect("a long scene");
+    *last = Station {
+        id: last.id,
+        channel: 260,
+        class: 0,
+        flags: 0,
+        lat,
+        lon: 50_000,
+    };
+    (last.id, class_a(lat, 0))
+}
+
+/// Tables of every manner around the line between the versions and around the limit: the last station goes, moves, and gets another
+/// one behind it while there is room; and made questions. Over the limit there is no table.
+#[test]
+fn around_the_lines() {
+    let mut chance = Chance::new(23);
+    let granted = |stations: usize| Answer::Granted(8 + 16 * stations as u32);
+    let refused = |number| Answer::Refused { number, extra: 0 };
+    for (count, version) in [
+        (LINE - 1, 1),
+        (LINE, 1),
+        (LINE + 1, 2),
+        (LINE + 2, 2),
+        (LIMIT - 1, 2),
+        (LIMIT, 2),
+        (LIMIT + 1, 2),
+    ] {
+        let answers = match count {
+            0..LIMIT => [count - 1, count, count + 1].map(granted),
+            LIMIT => [granted(LIMIT - 1), granted(LIMIT), refused(21)],
+            _ => [refused(5); 3],
+        };
+        // A lone scene has few stations.
+        for manner in MANNERS.into_iter().filter(|&one| one != Manner::Lone) {
+            let mut scene = scene_of(&mut chance, manner, count);
+            let (id, proposal) = last_apart(&mut scene);
+            let table = image_in(version, &scene.stations);
+            let changes = [
+                Question::Withdraw { id },
+                Question::Move { id, channel: 300 },
+                Question::Add {
+                    id: id + 1,
+                    channel: 260,
+                    proposal,
+                },
+            ];
+            for (change, answer) in changes.iter().zip(answers) {
+                assert_eq!(agree(change, &table).answer, answer, "{change:?}");
+            }
+            for _ in 0..3 {
+                for mut question in questions(&mut chance, &scene) {
+                    narrow(&mut question);
+                    agree(&question, &table);
+                }
+            }
+        }
+    }
+}
+
+/// Up over the line between the versions, or to the limit, and back down: each granted image is the next table, and the last one is
+/// the first.
+#[test]
+fn across_the_lines() {
+    for (start, most) in [(LINE - 2, LINE + 2), (LIMIT - 2, LIMIT)] {
+        let first = image_of(&dense(start, 0));
+        let mut table = first.clone();
+        let sites = [(1, 0), (19_985, 20_000), (19_991, 40_000), (40_001, 60_000)];
+        let adds = sites.map(|(id, lon)| Question::Add {
+            id,
             channel: 250,
-            class: 0,
-            flags: 0,
-            lat: 0,
-            lon: if position == nearer { 900 } else { 1_000 },
-        };
-        let table = image_of(&(0..2_000).map(station).collect::<Vec<_>>());
-        let reason = |aside| {
-            let question = Question::reason(250, class_a(0, 0), aside);
-            agree_in(&question, &table, 0, 0).reason()
-        };
-        let told = |position, d| Some((8 + 16 * position, [10 * position + 7, d, 115, 0]));
-        assert_eq!(reason(0), told(nearer, 28));
-        assert_eq!(reason(10 * nearer + 7), told(u32::from(nearer == 0), 31));
+            proposal: class_a(200_000, lon),
+        });
+        let withdrawals = sites.map(|(id, _)| Question::Withdraw { id });
+        let mut longest = 0;
+        for change in adds.iter().chain(&withdrawals) {
+            let outcome = agree(change, &table);
+            if let Answer::Granted(_) = outcome.answer {
+                table = outcome.image().to_vec();
+            }
+            longest = longest.max(table.len());
+        }
+        assert_eq!(longest, 8 + 16 * most);
+        assert_eq!(table, first);
     }
 }
 

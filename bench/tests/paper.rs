@@ -2,7 +2,7 @@
 
 mod common;
 
-use common::{agree, class_a, table_of_one};
+use common::{agree, class_a, dense, table_of_one, LIMIT, LINE};
 use fms_bench::naive::{image_of, short, squared, Station};
 use fms_bench::question::{Answer, Proposal, Question};
 
@@ -293,5 +293,82 @@ fn the_largest_shortfall() {
     assert_eq!(reason(4), Some((56, [8, 0, 72, 1])));
     for other in [2, 6, 8, 10, 12] {
         assert_eq!(reason(other), reason(0));
+    }
+}
+
+/// The bytes of a table with another version and count, and with records in the place of some from a position on.
+fn changed(
+    table: &[u8],
+    version: u8,
+    count: usize,
+    position: usize,
+    gone: usize,
+    records: &[u8],
+) -> Vec<u8> {
+    let mut image = table.to_vec();
+    image[4] = version;
+    image[6..8].copy_from_slice(&(count as u16).to_be_bytes());
+    let place = 8 + 16 * position;
+    image.splice(place..place + 16 * gone, records.iter().copied());
+    image
+}
+
+/// version 1 carries up to 2,000 stations and version 2 carries 2,001 to 4,000, in the same layout. Add and Withdraw write the
+/// version of the new count, and Move the one that it finds; no other byte of the table changes.
+#[test]
+fn four_thousand_stations() {
+    for (count, version, added, withdrawn) in [
+        (LINE - 1, 1, Some(1), 1),
+        (LINE, 1, Some(2), 1),
+        (LINE + 1, 2, Some(2), 1),
+        (LINE + 2, 2, Some(2), 2),
+        (LIMIT - 1, 2, Some(2), 2),
+        (LIMIT, 2, None, 2),
+    ] {
+        let stations = dense(count, 0);
+        let table = image_of(&stations);
+        let [high, low] = (count as u16).to_be_bytes();
+        assert_eq!(table[..8], [b'F', b'M', b'S', 0, version, 0, high, low]);
+        let read = agree(&Question::Read, &table).answer;
+        assert_eq!(read, Answer::Granted(count as u32));
+        let record = |station| image_of(&[station])[8..].to_vec();
+        for position in [0, 1, LINE - 2, count - 2, count - 1] {
+            let Station { id, .. } = stations[position];
+            let told = agree(&Question::Withdraw { id }, &table);
+            let without = changed(&table, withdrawn, count - 1, position, 1, &[]);
+            assert_eq!(told.image(), without);
+
+            let channel = 260;
+            let told = agree(&Question::Move { id, channel }, &table);
+            let moved = record(Station {
+                channel,
+                ..stations[position]
+            });
+            let with = changed(&table, version, count, position, 1, &moved);
+            assert_eq!(told.image(), with);
+
+            let id = id + 1;
+            let add = Question::Add {
+                id,
+                channel,
+                proposal: class_a(0, 0),
+            };
+            let told = agree(&add, &table);
+            let Some(added) = added else {
+                let refusal = Answer::Refused {
+                    number: 21,
+                    extra: 0,
+                };
+                assert_eq!(told.answer, refusal);
+                continue;
+            };
+            let new = record(Station {
+                id,
+                channel,
+                ..stations[0]
+            });
+            let with = changed(&table, added, count + 1, position + 1, 0, &new);
+            assert_eq!(told.image(), with);
+        }
     }
 }

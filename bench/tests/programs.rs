@@ -1,5 +1,5 @@
-//! The programs held against the naive desk: all that they print, byte for byte, on made, cut, damaged and overlong inputs. They are
-//! target/bin/fm_*, as `rt check` builds them. FMS_RUN names a command that runs them where they do not run by themselves,
+//! The programs held against the naive desk: all that they print, byte for byte, on made, cut, damaged, full and overlong inputs.
+//! They are target/bin/fm_*, as `rt check` builds them. FMS_RUN names a command that runs them where they do not run by themselves,
 //! FMS_PROGRAMS how many inputs each gets.
 
 mod common;
@@ -8,11 +8,12 @@ use std::io::Write;
 use std::path::{Path, PathBuf};
 use std::process::{Command, Stdio};
 
-use common::{class_a, table_of_one, IMAGE, ROWS};
+use common::{class_a, dense, table_of_one, IMAGE, LIMIT, LINE, ROWS};
 use fms_bench::made::{
-    damaged, proposal_in, scene, Chance, Manner, Scene, DAMAGES, LEVEL, MANNERS,
+    damaged, proposal_in, region, region_proposals, scene, Chance, Manner, Scene, DAMAGES, LEVEL,
+    MANNERS,
 };
-use fms_bench::naive;
+use fms_bench::naive::{self, image_in, image_of};
 use fms_bench::question::{Answer, Lent, Proposal, Question};
 
 const PROGRAMS: [&str; 5] = [
@@ -196,6 +197,12 @@ fn proposal_bytes(proposal: &Proposal) -> Vec<u8> {
     bytes
 }
 
+/// A proposal on a channel.
+fn asked(channel: u32, proposal: &Proposal) -> Vec<u8> {
+    let channel = (channel as u16).to_be_bytes();
+    [&channel[..], &proposal_bytes(proposal)].concat()
+}
+
 fn put_channel(chance: &mut Chance, input: &mut Vec<u8>) {
     let channel = if chance.once_in(16) {
         chance.one_of(&[0, 220, 301, 65_535])
@@ -285,7 +292,7 @@ fn put_question(chance: &mut Chance, program: &str, scene: &Scene, input: &mut V
 fn input(chance: &mut Chance, program: &str, turn: usize) -> Vec<u8> {
     let most = match program {
         "fm_arrange" | "fm_study" => chance.one_of(&[0, 2, 12, 40]),
-        _ => chance.one_of(&[0, 2, 12, 40, 300, 2_000]),
+        _ => chance.one_of(&[0, 2, 12, 40, 300, LIMIT]),
     };
     let scene = scene(chance, MANNERS[turn % MANNERS.len()], most);
     let mut input = Vec::new();
@@ -400,10 +407,6 @@ fn a_reason_for_a_sheet() {
     if !programs_run() {
         return;
     }
-    let asked = |channel: u32, proposal: &Proposal| {
-        let channel = (channel as u16).to_be_bytes();
-        [&channel[..], &proposal_bytes(proposal)].concat()
-    };
     let example = |aside: u32| {
         let (asked, table) = (asked(250, &class_a(0, 3_702)), table_of_one(250, 0, 0, 0));
         [&asked[..], &aside.to_be_bytes(), &table].concat()
@@ -427,5 +430,112 @@ fn a_reason_for_a_sheet() {
             let check = run("fm_study", &study).expect("it starts");
             assert_eq!(told == b"clear\n", check == b"short 0\n");
         }
+    }
+}
+
+/// What stands before a table in an input of each program, one for each letter that it knows: about 250 at (0, 0), where all dense
+/// stations are short, and with their first id; the Add far from them, with an id behind theirs.
+fn heads() -> [(&'static str, Vec<u8>); 8] {
+    let [first, behind] = [10, 40_001].map(u32::to_be_bytes);
+    let [short, spaced] = [0, 200_000].map(|lat| asked(250, &class_a(lat, 0)));
+    let head = |program, parts: &[&[u8]]| (program, parts.concat());
+    [
+        head("fm_check", &[&short]),
+        head("fm_reason", &[&short, &first]),
+        head("fm_arrange", &[&short[2..]]),
+        head("fm_study", &[b"c", &first, &short]),
+        head("fm_study", &[b"a", &first, &short[2..]]),
+        head("fm_change", &[b"a", &behind, &spaced]),
+        head("fm_change", &[b"w", &first]),
+        head("fm_change", &[b"m", &first, &260u16.to_be_bytes()]),
+    ]
+}
+
+/// Every program on tables around the line between the versions and around the limit: in either version, cut, and in inputs up to
+/// and over the 64 KiB that a program reads.
+#[test]
+fn tables_around_the_lines() {
+    if !programs_run() {
+        return;
+    }
+    let stations = dense(LIMIT + 1, 0);
+    for (program, head) in heads() {
+        let hold = |table: &[u8], name: &str| held(program, &[&head, table].concat(), name);
+        for (version, counts) in [(1, 0..=LINE), (2, LINE + 1..=LIMIT)] {
+            for count in [LINE - 1, LINE, LINE + 1, LIMIT - 1, LIMIT, LIMIT + 1] {
+                let name = format!("{count} stations in version {version}");
+                let told = hold(&image_in(version, &stations[..count]), &name);
+                assert_eq!(told != b"refused 5 0\n", counts.contains(&count), "{name}");
+            }
+        }
+        for count in [LINE + 1, LIMIT] {
+            let table = image_of(&stations[..count]);
+            for length in [9, table.len() - 16, table.len() - 1] {
+                assert_eq!(hold(&table[..length], "a cut table"), b"refused 6 0\n");
+            }
+            for length in [(1 << 16) - 1, 1 << 16, (1 << 16) + 1, 100_000] {
+                let mut longer = table.clone();
+                longer.resize(length - head.len(), 0);
+                assert_eq!(hold(&longer, "an overlong input"), b"refused 6 0\n");
+            }
+        }
+    }
+}
+
+/// The longest output of a check: 4,000 stations with ids of ten digits, each short at a distance of three.
+#[test]
+fn a_check_of_4000() {
+    if !programs_run() {
+        return;
+    }
+    let mut stations = dense(LIMIT, 3_400);
+    for (station, id) in stations.iter_mut().rev().zip((0..=u32::MAX).rev()) {
+        station.id = id;
+    }
+    let question = asked(250, &class_a(0, 0));
+    let table = image_of(&stations);
+    let told = held("fm_check", &[&question[..], &table].concat(), "all short");
+    assert_eq!(
+        told.len(),
+        "short 4000\n".len() + LIMIT * "4294967295 105 115\n".len()
+    );
+    let study = [b"c", &[0; 4][..], &question, &table].concat();
+    assert_eq!(held("fm_study", &study, "all short"), told);
+}
+
+/// The arrangements in a region of 4,000 stations, with nobody and with its first station left aside.
+#[test]
+fn a_region_of_4000() {
+    if !programs_run() {
+        return;
+    }
+    let table = region(1, LIMIT);
+    for proposal in region_proposals(2, 2) {
+        let plain = [&proposal_bytes(&proposal)[..], &table].concat();
+        held("fm_arrange", &plain, "a region");
+        let study = [b"a", &table[8..12], &plain].concat();
+        held("fm_study", &study, "a region");
+    }
+}
+
+/// What fm_change prints is the next table: from 2,000 stations over the line and back, and from 3,999 to the limit, at which there
+/// is no other Add, and back.
+#[test]
+fn changes_across_the_lines() {
+    if !programs_run() {
+        return;
+    }
+    let change = |head: &[&[u8]], table: &[u8]| {
+        held("fm_change", &[&head.concat(), table].concat(), "a change")
+    };
+    let [new, next] = [40_001, 40_002].map(u32::to_be_bytes);
+    let [here, there] = [0, 20_000].map(|lon| asked(250, &class_a(200_000, lon)));
+    for count in [LINE, LIMIT - 1] {
+        let first = image_of(&dense(count, 0));
+        let longer = change(&[b"a", &new, &here], &first);
+        assert_eq!(longer[..8], image_of(&dense(count + 1, 0))[..8]);
+        let again = change(&[b"a", &next, &there], &longer);
+        assert_eq!(again == b"refused 21 0\n", count + 1 == LIMIT);
+        assert_eq!(change(&[b"w", &new], &longer), first);
     }
 }

@@ -2,8 +2,9 @@
 
 mod common;
 
-use common::{agree_in, class_a, product, table_of_one, IMAGE, ROWS};
-use fms_bench::naive::{image_of, Station};
+use common::{agree_in, class_a, dense, product, table_of_one, IMAGE, LIMIT, LINE, ROWS};
+use fms_bench::made::WRONG_COUNTS;
+use fms_bench::naive::{image_in, image_of, Station};
 use fms_bench::question::{Answer, Proposal, Question};
 
 /// The question is refused with this, whatever the room; nothing is written.
@@ -134,23 +135,46 @@ fn two() -> Vec<u8> {
 
 /// The table of two with bytes put into it.
 fn with(puts: &[(usize, &[u8])]) -> Vec<u8> {
-    let mut table = two();
+    put(&two(), puts)
+}
+
+/// A table with bytes put into it.
+fn put(table: &[u8], puts: &[(usize, &[u8])]) -> Vec<u8> {
+    let mut table = table.to_vec();
     for (at, bytes) in puts {
         table[*at..at + bytes.len()].copy_from_slice(bytes);
     }
     table
 }
 
+/// The table of two with another version, sixth byte and count in its header.
+fn headed(version: u16, sixth: u8, count: u16) -> Vec<u8> {
+    let [version, count] = [version, count].map(u16::to_be_bytes);
+    with(&[(3, &version), (5, &[sixth]), (6, &count)])
+}
+
+/// The table of so many dense stations around (0, 0).
+fn table_of(count: usize) -> Vec<u8> {
+    image_of(&dense(count, 0))
+}
+
+/// The number of bytes of an image of so many stations.
+fn bytes_of(count: usize) -> u32 {
+    8 + 16 * count as u32
+}
+
+/// The table is read as one of so many.
+fn read(table: &[u8], count: usize) {
+    granted(&Question::Read, table, count as u32);
+}
+
+/// Tables of both versions are read, at both ends of their ranges.
 #[test]
 fn a_right_table_is_read() {
-    assert_eq!(
-        agree_in(&Question::Read, &two(), 0, 0).answer,
-        Answer::Granted(2)
-    );
-    assert_eq!(
-        agree_in(&Question::Read, &image_of(&[]), 0, 0).answer,
-        Answer::Granted(0)
-    );
+    read(&two(), 2);
+    for count in [0, 1, LINE - 1, LINE, LINE + 1, LINE + 2, LIMIT - 1, LIMIT] {
+        read(&table_of(count), count);
+    }
 }
 
 #[test]
@@ -168,82 +192,95 @@ fn refusal_2() {
         table_refused(&with(&[(at, b"f")]), 2, 0);
     }
     table_refused(&with(&[(0, b"FMT")]), 2, 0);
-    table_refused(&with(&[(0, b"XXX\0\x02")]), 2, 0);
+    table_refused(&with(&[(0, b"XXX\0\x03")]), 2, 0);
     table_refused(b"TVS\0\x01\0\0\0", 2, 0);
 }
 
 #[test]
 fn refusal_3() {
-    for version in [0u16, 2, 3, 256, 257, 65_535] {
-        table_refused(&with(&[(3, &version.to_be_bytes())]), 3, 0);
-        table_refused(&with(&[(3, &version.to_be_bytes()), (5, &[1])]), 3, 0);
+    for version in [0, 3, 256, 257, 258, 512, 513, 65_535] {
+        for (sixth, count) in [(0, 2), (1, 2), (0, 2_001), (1, 65_535)] {
+            table_refused(&headed(version, sixth, count), 3, 0);
+        }
+        for count in [LINE, LINE + 1] {
+            table_refused(&image_in(version, &dense(count, 0)), 3, 0);
+        }
     }
 }
 
+/// A sixth byte that is not 0 comes before the count, in both versions.
 #[test]
 fn refusal_4() {
-    for byte in [1u8, 2, 128, 255] {
-        table_refused(&with(&[(5, &[byte])]), 4, 0);
-        table_refused(&with(&[(5, &[byte]), (6, &2_001u16.to_be_bytes())]), 4, 0);
+    for sixth in [1, 2, 128, 255] {
+        for (version, count) in WRONG_COUNTS.into_iter().chain([(1, 2), (2, 2_001)]) {
+            table_refused(&headed(version, sixth, count), 4, 0);
+        }
+        table_refused(&put(&table_of(LINE + 1), &[(5, &[sixth])]), 4, 0);
     }
 }
 
-/// A count over 2,000 comes before the length, right or wrong.
+/// A count outside of its version's range comes before the length, right or wrong, and before the records.
 #[test]
 fn refusal_5() {
-    for count in [2_001u16, 2_002, 4_000, 65_535] {
-        table_refused(&with(&[(6, &count.to_be_bytes())]), 5, 0);
-        let mut whole = with(&[(6, &count.to_be_bytes())]);
-        whole.resize(8 + 16 * usize::from(count), 0);
-        table_refused(&whole, 5, 0);
+    for (version, count) in WRONG_COUNTS {
+        let mut table = headed(version, 0, count);
+        table_refused(&table, 5, 0);
+        table.resize(8 + 16 * usize::from(count), 0);
+        table_refused(&table, 5, 0);
+        table_refused(&image_in(version, &dense(count.into(), 0)), 5, 0);
     }
-    let stations: Vec<Station> = (1..=2_001).map(|id| Station { id, ..STATION }).collect();
-    table_refused(&image_of(&stations), 5, 0);
-    let full = image_of(&stations[..2_000]);
-    assert_eq!(
-        agree_in(&Question::Read, &full, 0, 0).answer,
-        Answer::Granted(2_000)
-    );
 }
 
-/// A wrong length comes before any record.
+/// A wrong length comes before any record, in both versions.
 #[test]
 fn refusal_6() {
-    let table = two();
+    let resized = |mut table: Vec<u8>, length| {
+        table.resize(length, 0);
+        table_refused(&table, 6, 0);
+    };
     for length in [8, 9, 24, 39, 41, 56] {
-        let mut other = table.clone();
-        other.resize(length, 0);
-        table_refused(&other, 6, 0);
+        resized(two(), length);
     }
-    for count in [0u16, 1, 3, 512, 2_000] {
-        table_refused(&with(&[(6, &count.to_be_bytes())]), 6, 0);
-        table_refused(&with(&[(6, &count.to_be_bytes()), (8, &[0; 16])]), 6, 0);
+    for (version, counts) in [(1, &[0, 1, 3, 512, 2_000][..]), (2, &[2_001, 2_002, 4_000])] {
+        for &count in counts {
+            let table = headed(version, 0, count);
+            table_refused(&table, 6, 0);
+            table_refused(&put(&table, &[(8, &[0; 16])]), 6, 0);
+        }
     }
-    let mut longer = image_of(&[]);
-    longer.push(0);
-    table_refused(&longer, 6, 0);
+    resized(table_of(0), 9);
+    for count in [LINE, LINE + 1, LIMIT] {
+        let whole = 8 + 16 * count;
+        for length in [whole - 16, whole - 1, whole + 1, whole + 16, 1 << 16] {
+            resized(table_of(count), length);
+        }
+    }
 }
 
-/// The field of a record at an offset, with values that are refused and values that are not.
+/// The field of a record at an offset, with values that are refused and values that are not: all of them in the table of two, and
+/// the first of each in a full one.
 fn field(number: u32, offset: usize, bad: &[&[u8]], good: &[&[u8]], after: &[(usize, &[u8])]) {
-    for position in 0..2 {
-        let record = 8 + 16 * position;
-        for &value in bad {
-            table_refused(&with(&[(record + offset, value)]), number, position as u32);
-            // Faults in later fields of the record, and in the next record, do not show.
-            let mut faults = vec![(record + offset, value)];
-            faults.extend(after.iter().map(|&(at, bytes)| (record + at, bytes)));
-            if position == 0 {
-                faults.push((24, &[0, 0, 0, 0]));
+    let (one_bad, one_good) = (&bad[..1], good.get(..1).unwrap_or_default());
+    for (table, positions, bad, good) in [
+        (two(), [0, 1], bad, good),
+        (table_of(LIMIT), [LINE, LIMIT - 1], one_bad, one_good),
+    ] {
+        let count = (table.len() - 8) / 16;
+        for position in positions {
+            let record = 8 + 16 * position;
+            for &value in bad {
+                let mut faults = vec![(record + offset, value)];
+                table_refused(&put(&table, &faults), number, position as u32);
+                // Faults in later fields of the record, and in the next record, do not show.
+                faults.extend(after.iter().map(|&(at, bytes)| (record + at, bytes)));
+                if position + 1 < count {
+                    faults.push((record + 16, &[0; 4]));
+                }
+                table_refused(&put(&table, &faults), number, position as u32);
             }
-            table_refused(&with(&faults), number, position as u32);
-        }
-        for &value in good {
-            let table = with(&[(record + offset, value)]);
-            assert_eq!(
-                agree_in(&Question::Read, &table, 0, 0).answer,
-                Answer::Granted(2)
-            );
+            for &value in good {
+                read(&put(&table, &[(record + offset, value)]), count);
+            }
         }
     }
 }
@@ -254,27 +291,28 @@ const FAR_SITE: (usize, &[u8]) = (8, &[0x7F, 0xFF, 0xFF, 0xFF, 0x80, 0, 0, 0]);
 fn refusal_7() {
     let after = [(4, &[0u8, 0, 255, 255][..]), FAR_SITE];
     field(7, 0, &[&[0; 4]], &[], &after);
+    let ids =
+        |first: u32, second: u32| with(&[(8, &first.to_be_bytes()), (24, &second.to_be_bytes())]);
     for (first, second) in [
-        (7u32, 7u32),
+        (7, 7),
         (8, 7),
         (7, 1),
         (u32::MAX, u32::MAX),
         (u32::MAX, 7),
         (0x8000_0000, 0x7FFF_FFFF),
     ] {
-        let table = with(&[(8, &first.to_be_bytes()), (24, &second.to_be_bytes())]);
-        table_refused(&table, 7, 1);
+        table_refused(&ids(first, second), 7, 1);
     }
-    for (first, second) in [
-        (1u32, 2u32),
-        (0x7FFF_FFFF, 0x8000_0000),
-        (u32::MAX - 1, u32::MAX),
-    ] {
-        let table = with(&[(8, &first.to_be_bytes()), (24, &second.to_be_bytes())]);
-        assert_eq!(
-            agree_in(&Question::Read, &table, 0, 0).answer,
-            Answer::Granted(2)
-        );
+    for (first, second) in [(1, 2), (0x7FFF_FFFF, 0x8000_0000), (u32::MAX - 1, u32::MAX)] {
+        read(&ids(first, second), 2);
+    }
+    // The last of 4,000 after one with the id 39,990.
+    let last = |id: u32| put(&table_of(LIMIT), &[(IMAGE - 16, &id.to_be_bytes())]);
+    for id in [39_989, 39_990] {
+        table_refused(&last(id), 7, 3_999);
+    }
+    for id in [39_991, u32::MAX] {
+        read(&last(id), LIMIT);
     }
 }
 
@@ -558,21 +596,26 @@ fn refusal_17() {
     }
 }
 
+/// An Add on 250 at a site of longitude 0.
+fn add(id: u32, lat: i32) -> Question {
+    Question::Add {
+        id,
+        channel: 250,
+        proposal: class_a(lat, 0),
+    }
+}
+
+/// A latitude at which a proposal is short to the first station of the table of two and to every dense one, and one at which it is
+/// short to nobody.
+const SHORT: i32 = 0;
+const SPACED: i32 = 200_000;
+
 /// Id 0, also where the proposal is short and the table is full.
 #[test]
 fn refusal_18() {
-    for table in [image_of(&[]), two(), full(STATION)] {
-        for lat in [0, 200_000] {
-            refused(
-                &Question::Add {
-                    id: 0,
-                    channel: 250,
-                    proposal: class_a(lat, 0),
-                },
-                &table,
-                18,
-                0,
-            );
+    for table in [table_of(0), two(), table_of(LINE), table_of(LIMIT)] {
+        for lat in [SHORT, SPACED] {
+            refused(&add(0, lat), &table, 18, 0);
         }
     }
 }
@@ -580,47 +623,25 @@ fn refusal_18() {
 /// An id that is present, with its position, also where the proposal is short and the table is full.
 #[test]
 fn refusal_19() {
-    for lat in [0, 200_000] {
-        let proposal = class_a(lat, 0);
-        refused(
-            &Question::Add {
-                id: 7,
-                channel: 250,
-                proposal,
-            },
-            &two(),
-            19,
-            0,
-        );
-        refused(
-            &Question::Add {
-                id: 8,
-                channel: 250,
-                proposal,
-            },
-            &two(),
-            19,
-            1,
-        );
-        for position in [0, 1, 999, 1_998, 1_999] {
-            let question = Question::Add {
-                id: 10 * (position + 1),
-                channel: 250,
-                proposal,
-            };
-            refused(&question, &full(STATION), 19, position);
+    for lat in [SHORT, SPACED] {
+        refused(&add(7, lat), &two(), 19, 0);
+        refused(&add(8, lat), &two(), 19, 1);
+        for position in [0, 1, 999, 1_999, 2_000, 3_998, 3_999] {
+            let present = add(10 * (position + 1), lat);
+            refused(&present, &table_of(LIMIT), 19, position);
         }
+        refused(&add(20_000, lat), &table_of(LINE), 19, 1_999);
     }
 }
 
-/// 2,000 stations with the ids 10 to 20,000, all like one.
-fn full(station: Station) -> Vec<u8> {
-    let stations: Vec<Station> = (1..=2_000)
-        .map(|i| Station {
-            id: 10 * i,
-            ..station
-        })
-        .collect();
+/// A dense table in which all but some positions are far from (0, 0).
+fn near(count: usize, positions: &[usize]) -> Vec<u8> {
+    let mut stations = dense(count, 0);
+    for (position, station) in stations.iter_mut().enumerate() {
+        if !positions.contains(&position) {
+            station.lat -= SPACED;
+        }
+    }
     image_of(&stations)
 }
 
@@ -680,29 +701,12 @@ fn refusal_20_of_add() {
             8 + 16 * 5,
         );
     }
-    refused(
-        &Question::Add {
-            id: 5,
-            channel: 250,
-            proposal: class_a(0, 0),
-        },
-        &full(STATION),
-        20,
-        0,
-    );
-    let stations: Vec<Station> = (1..=2_000)
-        .map(|i| Station {
-            id: 10 * i,
-            lat: if i == 2_000 { 0 } else { 200_000 },
-            ..STATION
-        })
-        .collect();
-    let question = Question::Add {
-        id: 5,
-        channel: 250,
-        proposal: class_a(0, 0),
-    };
-    refused(&question, &image_of(&stations), 20, 1_999);
+    for count in [LINE, LINE + 1, LIMIT] {
+        refused(&add(5, SHORT), &table_of(count), 20, 0);
+        let last = count - 1;
+        refused(&add(5, SHORT), &near(count, &[last]), 20, last as u32);
+    }
+    refused(&add(5, SHORT), &near(LIMIT, &[2_000, 3_999]), 20, 2_000);
 }
 
 /// Stations from 201 to 220 make a proposal short too, by difference 1 to 3 and by 53 and 54.
@@ -909,66 +913,35 @@ fn refusal_20_of_move() {
         &table,
         8 + 16 * 3,
     );
-    // A full table is no matter of Move.
-    refused(
-        &Question::Move {
-            id: 10,
-            channel: 250,
-        },
-        &full(STATION),
-        20,
-        1,
-    );
-    refused(
-        &Question::Move {
-            id: 20,
-            channel: 250,
-        },
-        &full(STATION),
-        20,
-        0,
-    );
-    granted(
-        &Question::Move {
-            id: 10,
-            channel: 260,
-        },
-        &full(STATION),
-        IMAGE as u32,
-    );
+    // A full table is no matter of Move, nor is the line between the versions.
+    let to = |id, channel| Question::Move { id, channel };
+    refused(&to(10, 250), &table_of(LIMIT), 20, 1);
+    refused(&to(40_000, 250), &table_of(LIMIT), 20, 0);
+    refused(&to(10, 250), &near(LIMIT, &[0, 3_999]), 20, 3_999);
+    refused(&to(40_000, 250), &near(LIMIT, &[2_000, 3_999]), 20, 2_000);
+    for count in [LINE, LINE + 1, LIMIT] {
+        for id in [10, 20_000, 10 * count as u32] {
+            granted(&to(id, 260), &table_of(count), bytes_of(count));
+        }
+    }
 }
 
+/// A table of 4,000 is full, whatever the room; one of 2,000 is not.
 #[test]
 fn refusal_21() {
-    for id in [1, 15, 20_001] {
-        let question = Question::Add {
-            id,
-            channel: 250,
-            proposal: class_a(200_000, 0),
+    for id in [1, 15, 20_005, 40_001] {
+        refused(&add(id, SPACED), &table_of(LIMIT), 21, 0);
+        let outcome = agree_in(&add(id, SPACED), &table_of(LIMIT), IMAGE + 16, 0);
+        let refusal = Answer::Refused {
+            number: 21,
+            extra: 0,
         };
-        refused(&question, &full(STATION), 21, 0);
-        let outcome = product(&question, &full(STATION), IMAGE + 16, 0);
-        assert_eq!(
-            outcome.answer,
-            Answer::Refused {
-                number: 21,
-                extra: 0
-            }
-        );
+        assert_eq!(outcome.answer, refusal);
         assert!(outcome.untouched());
+        for count in [LINE - 1, LINE, LINE + 1, LIMIT - 1] {
+            granted(&add(id, SPACED), &table_of(count), bytes_of(count + 1));
+        }
     }
-    let stations: Vec<Station> = (1..=1_999)
-        .map(|i| Station {
-            id: 10 * i,
-            ..STATION
-        })
-        .collect();
-    let question = Question::Add {
-        id: 15,
-        channel: 250,
-        proposal: class_a(200_000, 0),
-    };
-    granted(&question, &image_of(&stations), IMAGE as u32);
 }
 
 #[test]
@@ -978,7 +951,8 @@ fn refusal_22() {
     for (table, count, place) in [
         (image_of(&[]), 0, 0),
         (table_of_one(250, 0, 0, 0), 3, 8),
-        (full(STATION), 6_000, 8),
+        (table_of(LINE), 6_000, 8),
+        (table_of(LIMIT), 12_000, 8),
     ] {
         granted(&check, &table, count);
         granted(&reason, &table, place);
@@ -992,14 +966,14 @@ fn refusal_22() {
     };
     granted(&arrange(0), &image_of(&[]), 240);
     granted(&arrange(0), &table_of_one(260, 0, 0, 0), 3 * 584);
-    granted(&arrange(0), &full(STATION), 3 * 73);
+    granted(&arrange(0), &table_of(LIMIT), 3 * 73);
     // With a station left aside, the room is that of the table without it.
     granted(&arrange(7), &table_of_one(260, 0, 0, 0), 240);
-    for aside in [10, 10_000, 20_000] {
+    for aside in [10, 20_000, 20_010, 40_000] {
         let [check, _, reason] = studies(250, class_a(0, 0), aside);
-        granted(&check, &full(STATION), 5_997);
-        granted(&arrange(aside), &full(STATION), 3 * 73);
-        granted(&reason, &full(STATION), if aside == 10 { 24 } else { 8 });
+        granted(&check, &table_of(LIMIT), 11_997);
+        granted(&arrange(aside), &table_of(LIMIT), 3 * 73);
+        granted(&reason, &table_of(LIMIT), if aside == 10 { 24 } else { 8 });
     }
     let [_, one, _] = studies(260, class_a(0, 0), 0);
     granted(&one, &table_of_one(260, 0, 0, 0), 3 * 73);
@@ -1036,29 +1010,31 @@ fn refusal_22() {
         &two(),
         40,
     );
-    granted(
-        &Question::Withdraw { id: 20_000 },
-        &full(STATION),
-        IMAGE as u32 - 16,
-    );
+    for count in [LINE, LINE + 1, LINE + 2, LIMIT] {
+        for id in [10, 20_000, 10 * count as u32] {
+            let withdraw = Question::Withdraw { id };
+            granted(&withdraw, &table_of(count), bytes_of(count - 1));
+        }
+    }
 }
 
 #[test]
 fn refusal_23() {
-    for table in [image_of(&[]), two(), full(STATION)] {
-        for id in [0, 1, 9, 20_001, u32::MAX] {
-            refused(&Question::Withdraw { id }, &table, 23, 0);
+    let tables = [table_of(0), two(), table_of(LINE), table_of(LIMIT)];
+    for table in &tables {
+        for id in [0, 1, 9, 20_001, 40_001, u32::MAX] {
+            refused(&Question::Withdraw { id }, table, 23, 0);
             for channel in [221, 250, 300] {
-                refused(&Question::Move { id, channel }, &table, 23, 0);
+                refused(&Question::Move { id, channel }, table, 23, 0);
             }
         }
     }
     // A nonzero id that the studies should leave aside, before the room that their answers at (0, 0) need.
-    for table in [image_of(&[]), two(), full(STATION)] {
-        for aside in [1, 6, 9, 15, 20_001, u32::MAX] {
-            for lat in [0, 200_000] {
+    for table in &tables {
+        for aside in [1, 6, 9, 15, 20_001, 40_001, u32::MAX] {
+            for lat in [SHORT, SPACED] {
                 for question in studies(250, class_a(lat, 0), aside) {
-                    refused(&question, &table, 23, 0);
+                    refused(&question, table, 23, 0);
                 }
             }
         }

@@ -7,7 +7,7 @@ use std::hint::black_box;
 use std::process::exit;
 
 const USAGE: &str = "usage: measure product|tuned|tuned-box|naive \
-    read|check|check-aside|reason|reason-aside|arrange|arrange-aside|arrange-one-by-one|add|withdraw|move 250|2000 SITES";
+    read|check|check-aside|reason|reason-aside|arrange|arrange-aside|arrange-one-by-one|add|withdraw|move 250|2000|4000 SITES";
 
 /// Who answers.
 fn named(who: &str) -> Option<Ask> {
@@ -66,7 +66,7 @@ fn granted(table: &[u8], mut changes: impl Iterator<Item = Question>) -> Vec<Que
 
 /// The questions of a workload: one for each site, or 80 where each channel is asked for by itself. A station that is left aside
 /// is the nearest that stands in the way. Adds, withdrawals and moves are such as are granted, at places of the table that are
-/// evenly spread.
+/// evenly spread; where every channel is blocked at a site, the Add is made at the next site that has a free one.
 fn questions(what: &str, table: &[u8], sites: &[Proposal]) -> Option<Vec<Question>> {
     let (records, _) = table[8..].as_chunks::<16>();
     let ids: Vec<u32> = records
@@ -103,12 +103,16 @@ fn questions(what: &str, table: &[u8], sites: &[Proposal]) -> Option<Vec<Questio
                 let gap = pairs
                     .find(|pair| pair[0] + 1 < pair[1])
                     .expect("ids with a gap");
-                let add = |channel| Question::Add {
-                    id: gap[0] + 1,
-                    channel,
-                    proposal,
+                let id = gap[0] + 1;
+                let adds = |&proposal: &Proposal| {
+                    channels(turn).map(move |channel| Question::Add {
+                        id,
+                        channel,
+                        proposal,
+                    })
                 };
-                granted(table, channels(turn).map(add))
+                let (before, from_here) = sites.split_at(turn);
+                granted(table, from_here.iter().chain(before).flat_map(adds))
             }
             "withdraw" => granted(table, ids.iter().map(|&id| Question::Withdraw { id })),
             "move" => {
@@ -132,7 +136,7 @@ struct Buffers {
 impl Buffers {
     fn new() -> Buffers {
         Buffers {
-            image: vec![0; 8 + 16 * 2_000],
+            image: vec![0; 8 + 16 * 4_000],
             rows: vec![0; 3 * 80 * 79],
             reason: [0; 4],
         }
@@ -165,6 +169,7 @@ impl Workload {
         let size = match &size[..] {
             "250" => 250,
             "2000" => 2_000,
+            "4000" => 4_000,
             _ => return None,
         };
         // Add has room for one more station.

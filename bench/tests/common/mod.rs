@@ -12,8 +12,12 @@ const NUMBER: u32 = 0xDEAD_BEEF;
 /// Places behind the lent part of a buffer.
 const BEYOND: usize = 5;
 
+/// The most stations of an image of version 1, and of one of version 2.
+pub const LINE: usize = 2_000;
+pub const LIMIT: usize = 4_000;
+
 /// The longest image and the longest list.
-pub const IMAGE: usize = 8 + 16 * 2_000;
+pub const IMAGE: usize = 8 + 16 * LIMIT;
 pub const ROWS: usize = 3 * 80 * 79;
 
 /// The answer, and all buffers with what lies beyond their lent parts.
@@ -197,4 +201,19 @@ pub fn table_of_one(channel: u32, class: u32, lat: i32, lon: i32) -> Vec<u8> {
         lat,
         lon,
     }])
+}
+
+/// So many movable stations of class A on 250 with the ids 10, 20 and so on, no two at one site: 64 on each second of latitude from
+/// 0 on, one on each second of longitude from `lon` on.
+pub fn dense(count: usize, lon: i32) -> Vec<Station> {
+    (0..count as i32)
+        .map(|position| Station {
+            id: 10 * (position as u32 + 1),
+            channel: 250,
+            class: 0,
+            flags: 0,
+            lat: position / 64,
+            lon: lon + position % 64,
+        })
+        .collect()
 }

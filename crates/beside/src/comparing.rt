@@ -9,26 +9,30 @@ use crate::question::second_reason;
 use crate::question::second_rows;
 use cases::ARRANGE;
 use cases::DISTANCE;
+use cases::IMAGE_BYTES;
 use cases::MOVE;
 use cases::Question;
 use cases::below;
 use tally::Notes;
+use tally::PLENTY;
 use tally::alike_bytes;
 use tally::alike_rows;
+use tally::fill;
 use tally::kept;
 use tally::least;
 use tally::needed;
 use tally::note;
+use tally::note_image;
 use tally::note_reason;
 use tally::room_for;
 use tally::same;
 use tally::same_told;
 
 // The places of a buffer for an image.
-const BYTES: usize = 32_400;
+pub const IMAGE_ROOM: usize = IMAGE_BYTES + PLENTY;
 
-// The places of a buffer for rows.
-const NUMBERS: usize = 16_384;
+// The places of a buffer for rows: three numbers for each of 80 new channels and 79 moves.
+const NUMBERS: usize = 3 * 80 * 79 + PLENTY;
 
 // Read or distance.
 pub fn compare_number(q: Question, table: &[u8], notes: &mut Notes) -> bool {
@@ -38,17 +42,20 @@ pub fn compare_number(q: Question, table: &[u8], notes: &mut Notes) -> bool {
     same(q, table, 0, one, two, 0)
 }
 
-// Add, withdraw or move, into two buffers alike.
+// Add, withdraw or move, into two buffers filled alike.
 fn compare_image(
     q: Question,
     table: &[u8],
+    filling: u8,
     mine: &mut [u8],
     other: &mut [u8],
     notes: &mut Notes,
 ) -> bool {
+    fill(mine, filling);
+    fill(other, filling);
     let one = first_image(q, table, mine);
     let two = second_image(q, table, other);
-    note(notes, q.kind, one);
+    note_image(notes, q.kind, one, table, mine);
     let at = alike_bytes(mine, other, notes);
     same(q, table, mine.len(), one, two, at)
 }
@@ -95,15 +102,27 @@ pub fn compare_reason(q: Question, table: &[u8], filling: u32, notes: &mut Notes
     kept(q, table, one, &mine, filling)
 }
 
-// A question with an image, with some room.
-fn image_case(state: &mut u64, q: Question, table: &[u8], notes: &mut Notes) -> bool {
+// A question with an image, with some room of two buffers.
+fn image_case(
+    state: &mut u64,
+    q: Question,
+    table: &[u8],
+    mine: &mut [u8],
+    other: &mut [u8],
+    notes: &mut Notes,
+) -> bool {
     let mut none = [0u8; 1];
     let need = needed(first_image(q, table, &mut none));
-    let room = least(room_for(state, need), BYTES);
+    let room = least(room_for(state, need), least(mine.len(), other.len()));
     let filling = below(state, 256) as u8;
-    let mut mine = [filling; BYTES];
-    let mut other = [filling; BYTES];
-    compare_image(q, table, &mut mine[..room], &mut other[..room], notes)
+    compare_image(
+        q,
+        table,
+        filling,
+        &mut mine[..room],
+        &mut other[..room],
+        notes,
+    )
 }
 
 // A question with rows, with some room.
@@ -117,13 +136,20 @@ fn rows_case(state: &mut u64, q: Question, table: &[u8], notes: &mut Notes) -> b
     compare_rows(q, table, &mut mine[..room], &mut other[..room], notes)
 }
 
-// A question of any kind, with some room.
-pub fn compare(state: &mut u64, q: Question, table: &[u8], notes: &mut Notes) -> bool {
+// A question of any kind, with some room; two buffers are lent for images, and filled only as far as they are used.
+pub fn compare(
+    state: &mut u64,
+    q: Question,
+    table: &[u8],
+    mine: &mut [u8],
+    other: &mut [u8],
+    notes: &mut Notes,
+) -> bool {
     if q.kind <= DISTANCE {
         return compare_number(q, table, notes);
     }
     if q.kind <= MOVE {
-        return image_case(state, q, table, notes);
+        return image_case(state, q, table, mine, other, notes);
     }
     if q.kind <= ARRANGE {
         return rows_case(state, q, table, notes);

@@ -2,6 +2,7 @@
 mod comparing;
 mod question;
 
+pub use comparing::IMAGE_ROOM;
 pub use comparing::compare;
 pub use comparing::compare_all_rows;
 pub use comparing::compare_number;

@@ -8,6 +8,10 @@ use super::question::Question;
 use super::tables::any_site;
 use super::words::Site;
 ghost use Prim.Native.Nat.{_≤_, _<_};
+ghost use Rattle.cases.specs.Sizes.{mostRecords};
+
+// So many records are many: the second implementation is slow to arrange beside them.
+const MANY: u32 = 100;
 
 // A channel that cannot be asked.
 fn other_channel(state: &mut u64) -> u32 {
@@ -130,7 +134,7 @@ fn other_end(state: &mut u64, from: Site, odds: u32) -> Site
 
 // The id left aside: 0, one of a table of n records whose ids rise by 3 from a number, seldom one behind them, or any.
 fn aside_id(state: &mut u64, start: u32, n: u32) -> u32
-    requires { ⌜ n ≤ 2001 ⌝ }
+    requires { ⌜ n ≤ mostRecords ⌝ }
 {
     if once_in(state, 3) {
         return 0;
@@ -143,7 +147,7 @@ fn aside_id(state: &mut u64, start: u32, n: u32) -> u32
 
 // The id of a question: to check, arrange or reason, the one left aside; else one of the table, to add one beside it, or 0, or any.
 fn asked_id(state: &mut u64, kind: u32, start: u32, n: u32) -> u32
-    requires { ⌜ n ≤ 2001 ⌝ }
+    requires { ⌜ n ≤ mostRecords ⌝ }
 {
     if MOVE < kind {
         return aside_id(state, start, n);
@@ -161,10 +165,13 @@ fn asked_id(state: &mut u64, kind: u32, start: u32, n: u32) -> u32
     std::num::wrapping_sub_u32(std::num::wrapping_add_u32(id, 1), below(state, 3))
 }
 
-// The last channel: the same, the last of all, one behind, or any.
-fn asked_last(state: &mut u64, first: u32, odds: u32) -> u32
+// The last channel: beside many records the same or the next; else the same, the last of all, one behind, or any.
+fn asked_last(state: &mut u64, first: u32, n: u32, odds: u32) -> u32
     requires { ⌜ 0 < odds ⌝ }
 {
+    if MANY <= n {
+        return std::num::wrapping_add_u32(first, below(state, 2));
+    }
     match below(state, 4) {
         0 => first,
         1 => 300,
@@ -194,7 +201,7 @@ fn odds_of(state: &mut u64) -> u32
 
 // A question of a kind about a table of n records whose ids start at a number.
 pub fn made_question(state: &mut u64, kind: u32, start: u32, n: u32) -> Question
-    requires { ⌜ n ≤ 2001 ⌝ }
+    requires { ⌜ n ≤ mostRecords ⌝ }
 {
     let odds = odds_of(state);
     let zone = 1 + below(state, 3);
@@ -205,7 +212,7 @@ pub fn made_question(state: &mut u64, kind: u32, start: u32, n: u32) -> Question
         kind,
         id: asked_id(state, kind, start, n),
         channel,
-        last: asked_last(state, channel, odds),
+        last: asked_last(state, channel, n, odds),
         class: asked_class(state, zone, odds),
         zone: asked_zone(state, zone, odds),
         lat: from.lat,

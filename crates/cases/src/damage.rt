@@ -5,16 +5,40 @@ use super::image::put_four;
 use super::image::put_one;
 use super::image::put_two;
 use super::image::start_of;
+use super::sizes::LIMIT;
+use super::sizes::LINE;
+use super::sizes::version_for;
 ghost use Prim.Native.Nat.{_≤_, _<_};
+ghost use Rattle.cases.specs.Sizes.{mostRecords, longest, room};
 
-// A version that is not 1.
+// A version that is none.
 fn other_version(state: &mut u64) -> u32 {
-    match below(state, 4) {
+    match below(state, 5) {
         0 => 0,
-        1 => 2,
+        1 => 3,
         2 => 256,
-        _ => 257,
+        3 => 257,
+        _ => 258,
     }
+}
+
+// Gives a table of n records a count, mostly another, and a version that is not for it.
+fn damage_count(state: &mut u64, table: &mut [u8], n: u32) {
+    let count = match below(state, 6) {
+        0 => LINE,
+        1 => LINE + 1,
+        2 => LIMIT,
+        3 => LIMIT + 1,
+        4 => below(state, 65_536),
+        _ => n,
+    };
+    let version = if LIMIT < count {
+        1 + below(state, 2)
+    } else {
+        3 - version_for(count)
+    };
+    put_two(table, 3, version);
+    put_two(table, 6, count);
 }
 
 // A channel out of range.
@@ -39,10 +63,10 @@ fn beyond(state: &mut u64, side: u32) -> u32 {
     }
 }
 
-// Damages the header or the length by a kind, 1 to 6, and gives the length.
-fn damage_header(state: &mut u64, table: &mut [u8], length: usize, kind: u32) -> usize
-    requires { ⌜ length ≤ 32024 ⌝ }
-    ensures { λ r. ⌜ r ≤ 32064 ⌝ }
+// Damages the header or the length of a table of n records by a kind, 1 to 6, and gives the length.
+fn damage_header(state: &mut u64, table: &mut [u8], n: u32, length: usize, kind: u32) -> usize
+    requires { ⌜ length ≤ longest ⌝ }
+    ensures { λ r. ⌜ r ≤ room ⌝ }
 {
     match kind {
         1 => {
@@ -58,7 +82,7 @@ fn damage_header(state: &mut u64, table: &mut [u8], length: usize, kind: u32) ->
             put_one(table, 5, 1 + below(state, 255));
         }
         5 => {
-            put_two(table, 6, 2_001 + below(state, 63_000));
+            damage_count(state, table, n);
         }
         _ => {
             return length + 1 + below(state, 33) as usize;
@@ -69,7 +93,7 @@ fn damage_header(state: &mut u64, table: &mut [u8], length: usize, kind: u32) ->
 
 // Damages the record that starts at a place by a kind, 7 to 12.
 fn damage_record(state: &mut u64, table: &mut [u8], at: usize, kind: u32)
-    requires { ⌜ at ≤ 32024 ⌝ }
+    requires { ⌜ at ≤ longest ⌝ }
 {
     match kind {
         7 => {
@@ -95,11 +119,11 @@ fn damage_record(state: &mut u64, table: &mut [u8], at: usize, kind: u32)
 
 // Damages a table of n records by a kind, 1 to 12, or a byte anywhere, and gives its length.
 fn damage(state: &mut u64, table: &mut [u8], n: u32, length: usize, kind: u32) -> usize
-    requires { ⌜ (length ≤ 32024) × (n ≤ 2001) ⌝ }
-    ensures { λ r. ⌜ r ≤ 32064 ⌝ }
+    requires { ⌜ (length ≤ longest) × (n ≤ mostRecords) ⌝ }
+    ensures { λ r. ⌜ r ≤ room ⌝ }
 {
     if kind <= 6 {
-        return damage_header(state, table, length, kind);
+        return damage_header(state, table, n, length, kind);
     }
     if kind <= 12 {
         let p = below(state, n + 1) as usize;
@@ -113,8 +137,8 @@ fn damage(state: &mut u64, table: &mut [u8], n: u32, length: usize, kind: u32) -
 
 // Damages a record of a table of n records, and then the table in another place or the same, and gives its length.
 fn damaged_twice(state: &mut u64, table: &mut [u8], n: u32, length: usize) -> usize
-    requires { ⌜ (length ≤ 32024) × (n ≤ 2001) ⌝ }
-    ensures { λ r. ⌜ r ≤ 32064 ⌝ }
+    requires { ⌜ (length ≤ longest) × (n ≤ mostRecords) ⌝ }
+    ensures { λ r. ⌜ r ≤ room ⌝ }
 {
     let kind1 = 7 + below(state, 6);
     damage(state, table, n, length, kind1);
@@ -124,8 +148,8 @@ fn damaged_twice(state: &mut u64, table: &mut [u8], n: u32, length: usize) -> us
 
 // Damages a table of n records once or twice, and gives its length.
 pub(crate) fn damaged(state: &mut u64, table: &mut [u8], n: u32, length: usize) -> usize
-    requires { ⌜ (length ≤ 32024) × (n ≤ 2001) ⌝ }
-    ensures { λ r. ⌜ r ≤ 32064 ⌝ }
+    requires { ⌜ (length ≤ longest) × (n ≤ mostRecords) ⌝ }
+    ensures { λ r. ⌜ r ≤ room ⌝ }
 {
     if once_in(state, 3) {
         return damaged_twice(state, table, n, length);

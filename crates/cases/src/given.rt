@@ -1,5 +1,8 @@
-// Cases with their answers: an id left aside in check, arrange and reason, and of reason each column, equals and refusals.
+// Cases with their answers: an id left aside in check, arrange and reason; of reason each column, equals and refusals; and of read
+// the versions and their counts.
+use super::headers::header_of;
 use super::image::Record;
+use super::image::put_any_header;
 use super::image::put_header;
 use super::image::put_record;
 use super::paper::paper_channel;
@@ -10,9 +13,11 @@ use super::paper::put_seven;
 use super::question::ARRANGE;
 use super::question::CHECK;
 use super::question::Question;
+use super::question::READ;
 use super::question::REASON;
 use super::words::Site;
 ghost use Prim.Native.Nat.{_≤_};
+ghost use Rattle.cases.specs.Sizes.{mostRecords};
 
 // A question; its answer with all the room for rows, and with one place; and the four numbers behind a reason.
 pub struct Given {
@@ -23,7 +28,7 @@ pub struct Given {
 }
 
 // How many there are.
-pub const GIVEN: u32 = 35;
+pub const GIVEN: u32 = 49;
 
 // The bytes of their longest table.
 pub const GIVEN_BYTES: usize = 72;
@@ -32,11 +37,11 @@ pub const GIVEN_BYTES: usize = 72;
 pub const UNTOLD: u32 = 4_294_967_295;
 
 // The least packed refusal, 2^32.
-const REFUSED: u64 = 4_294_967_296;
+pub(crate) const REFUSED: u64 = 4_294_967_296;
 
 // Writes a station of a class on the equator.
 fn put_on_equator(table: &mut [u8], position: usize, id: u32, channel: u32, class: u32, lon: u32)
-    requires { ⌜ position ≤ 2001 ⌝ }
+    requires { ⌜ position ≤ mostRecords ⌝ }
 {
     let record = Record {
         id,
@@ -58,7 +63,7 @@ fn put_equals(table: &mut [u8], class: u32) {
     put_on_equator(table, 3, 9, 250, class, 4_294_965_496);
 }
 
-// Writes the table of a case, and gives its length: one station of the paper's, four, or four of which the last has no class.
+// Writes the table of a case, and gives its length: one station of the paper's, four, four of which the last has no class, or none.
 pub fn put_given_table(table: &mut [u8], k: u32) -> usize {
     match k {
         0..=11 => {
@@ -77,9 +82,14 @@ pub fn put_given_table(table: &mut [u8], k: u32) -> usize {
             put_equals(table, 0);
             72
         }
-        _ => {
+        32..=34 => {
             put_equals(table, 8);
             72
+        }
+        _ => {
+            let header = header_of(k);
+            put_any_header(table, header.version, header.sixth, header.count);
+            8
         }
     }
 }
@@ -133,7 +143,7 @@ fn named(channel: u32, class: u32, lon: u32, aside: u32, place: u64, told: [u32;
 }
 
 // The cases in a row: twelve of reason by the paper's separations, and six beside its one station; four each of check and arrange
-// with an id left aside; six of reason beside four stations; and one of each where the station left aside is faulty.
+// with an id left aside; six of reason beside four stations; one of each where the station left aside is faulty; and the headers.
 pub fn given_case(k: u32) -> Given {
     match k {
         12 => named(250, 0, 3_702, 0, 8, [7, 114, 115, 0]),
@@ -159,6 +169,7 @@ pub fn given_case(k: u32) -> Given {
         32 => silent(CHECK, 260, 0, 9, 9 * REFUSED + 3),
         33 => silent(ARRANGE, 221, 0, 9, 9 * REFUSED + 3),
         34 => silent(REASON, 220, 0, 9, 9 * REFUSED + 3),
+        35..=48 => silent(READ, 0, 0, 0, header_of(k).answer),
         _ => {
             let told = [7, 0, paper_separation(k), paper_column(k)];
             named(paper_channel(k), paper_class(k), 0, 0, 8, told)

@@ -1,6 +1,8 @@
 // Table images, written field by field.
+use super::sizes::version_for;
 use super::words::Site;
-ghost use Prim.Native.Nat.{_≤_};
+ghost use Prim.Native.Nat.{_+_, _≤_};
+ghost use Rattle.cases.specs.Sizes.{mostRecords, longest};
 
 // A record's fields.
 pub(crate) struct Record {
@@ -13,8 +15,8 @@ pub(crate) struct Record {
 
 // Where the record at a position starts.
 pub(crate) fn start_of(position: usize) -> usize
-    requires { ⌜ position ≤ 2001 ⌝ }
-    ensures { λ r. ⌜ r ≤ 32024 ⌝ }
+    requires { ⌜ position ≤ mostRecords ⌝ }
+    ensures { λ r. ⌜ r ≤ longest ⌝ }
 {
     8 + 16 * position
 }
@@ -28,7 +30,7 @@ pub(crate) fn put_one(table: &mut [u8], at: usize, value: u32) {
 
 // Writes the lowest 16 bits.
 pub(crate) fn put_two(table: &mut [u8], at: usize, value: u32)
-    requires { ⌜ at ≤ 40000 ⌝ }
+    requires { ⌜ at ≤ longest + 14 ⌝ }
 {
     put_one(table, at, value / 256);
     put_one(table, at + 1, value);
@@ -36,22 +38,28 @@ pub(crate) fn put_two(table: &mut [u8], at: usize, value: u32)
 
 // Writes 32 bits.
 pub(crate) fn put_four(table: &mut [u8], at: usize, value: u32)
-    requires { ⌜ at ≤ 39000 ⌝ }
+    requires { ⌜ at ≤ longest + 12 ⌝ }
 {
     put_two(table, at, value / 65_536);
     put_two(table, at + 2, value);
 }
 
-// Writes the header of n stations: the mark FMS, version 1, a byte 0, and n.
-pub fn put_header(table: &mut [u8], n: u32) {
+// Writes a header: the mark FMS, a version, a byte, and a count.
+pub(crate) fn put_any_header(table: &mut [u8], version: u32, sixth: u32, count: u32) {
     put_four(table, 0, 0x464D_5300);
-    put_two(table, 4, 0x0100);
-    put_two(table, 6, n);
+    put_two(table, 3, version);
+    put_one(table, 5, sixth);
+    put_two(table, 6, count);
+}
+
+// Writes the header of n stations.
+pub fn put_header(table: &mut [u8], n: u32) {
+    put_any_header(table, version_for(n), 0, n);
 }
 
 // Writes the record at a position.
 pub(crate) fn put_record(table: &mut [u8], position: usize, record: Record)
-    requires { ⌜ position ≤ 2001 ⌝ }
+    requires { ⌜ position ≤ mostRecords ⌝ }
 {
     let at = start_of(position);
     let s = record.site;

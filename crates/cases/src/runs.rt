@@ -11,22 +11,30 @@ use super::question::Question;
 use super::question::READ;
 use super::question::REASON;
 use super::question::WITHDRAW;
+use super::sizes::LIMIT;
+use super::sizes::LINE;
+use super::sizes::MOST;
 use super::tables::AT_LIMITS;
+use super::tables::CROWDED;
 use super::tables::EQUALS;
 use super::tables::LOW;
 use super::tables::SCATTERED;
 use super::tables::made_table;
 use super::words::Site;
 ghost use Prim.Native.Nat.{_≤_};
+ghost use Rattle.cases.specs.Sizes.{mostRecords, room};
 
-// Asked in a run in place of one question: every question of 01 on a table but arrange.
+// Asked in a run in place of one question: every question on a table but arrange.
 const ALL_BUT_ARRANGE: u32 = 8;
 
-// Asked in a run in place of one question: every question of 01 on a table.
+// Asked in a run in place of one question: every question on a table.
 const ALL: u32 = 9;
 
+// Asked in a run in place of one question: move or withdraw, of a station that mostly is there.
+const MOVE_OR_WITHDRAW: u32 = 10;
+
 // How many runs there are.
-pub const RUNS: u32 = 11;
+pub const RUNS: u32 = 21;
 
 // A run: how many cases, which question, at least how many records and how many more, their style, damaged or not.
 pub struct Run {
@@ -36,6 +44,20 @@ pub struct Run {
     pub more: u32,
     pub style: u32,
     pub damage: bool,
+}
+
+// A run on tables of so many records, one less, and one or two more.
+fn around(size: u32, cases: u32, question: u32, style: u32, damage: bool) -> Run
+    requires { ⌜ 1 ≤ size ⌝ }
+{
+    Run {
+        cases,
+        question,
+        fewest: size - 1,
+        more: 3,
+        style,
+        damage,
+    }
 }
 
 // The runs in a row.
@@ -52,7 +74,7 @@ pub fn run_of(k: u32) -> Run {
         },
         // Small tables at the limits.
         1 => Run {
-            cases: 40_000,
+            cases: 48_000,
             question: ALL_BUT_ARRANGE,
             fewest: 0,
             more: 12,
@@ -61,7 +83,7 @@ pub fn run_of(k: u32) -> Run {
         },
         // Small tables, damaged.
         2 => Run {
-            cases: 20_000,
+            cases: 23_000,
             question: ALL,
             fewest: 0,
             more: 4,
@@ -91,7 +113,7 @@ pub fn run_of(k: u32) -> Run {
             cases: 300,
             question: ALL_BUT_ARRANGE,
             fewest: 100,
-            more: 1_900,
+            more: LIMIT - 100,
             style: SCATTERED,
             damage: false,
         },
@@ -100,21 +122,25 @@ pub fn run_of(k: u32) -> Run {
             cases: 200,
             question: ALL_BUT_ARRANGE,
             fewest: 100,
-            more: 1_900,
+            more: LIMIT - 100,
             style: SCATTERED,
             damage: true,
         },
-        // Full tables, and tables with one record too many.
-        7 => Run {
-            cases: 200,
-            question: ADD,
-            fewest: 1_998,
-            more: 3,
-            style: LOW,
-            damage: false,
-        },
+        // Around the line between the versions: all questions, damaged tables, arrangements, and more of the changes.
+        7 => around(LINE, 300, ALL_BUT_ARRANGE, SCATTERED, false),
+        8 => around(LINE, 200, ALL, SCATTERED, true),
+        9 => around(LINE, 24, ARRANGE, AT_LIMITS, false),
+        10 => around(LINE, 200, ADD, LOW, false),
+        11 => around(LINE, 300, MOVE_OR_WITHDRAW, SCATTERED, false),
+        // The same around the limit, and stations that are all short.
+        12 => around(LIMIT, 360, ALL_BUT_ARRANGE, SCATTERED, false),
+        13 => around(LIMIT, 200, ALL, SCATTERED, true),
+        14 => around(LIMIT, 40, ARRANGE, AT_LIMITS, false),
+        15 => around(LIMIT, 240, ADD, LOW, false),
+        16 => around(LIMIT, 150, MOVE_OR_WITHDRAW, SCATTERED, false),
+        17 => around(LIMIT, 50, CHECK, CROWDED, false),
         // Reasons among equals.
-        8 => Run {
+        18 => Run {
             cases: 9_000,
             question: REASON,
             fewest: 0,
@@ -123,7 +149,7 @@ pub fn run_of(k: u32) -> Run {
             damage: false,
         },
         // Reasons in damaged tables.
-        9 => Run {
+        19 => Run {
             cases: 3_000,
             question: REASON,
             fewest: 0,
@@ -136,14 +162,14 @@ pub fn run_of(k: u32) -> Run {
             cases: 60,
             question: REASON,
             fewest: 100,
-            more: 1_900,
+            more: LIMIT - 100,
             style: EQUALS,
             damage: false,
         },
     }
 }
 
-// The questions of 01 on a table in a row.
+// The questions on a table in a row.
 fn on_table(k: u32) -> u32 {
     match k {
         0 => CHECK,
@@ -151,6 +177,7 @@ fn on_table(k: u32) -> u32 {
         2 => MOVE,
         3 => WITHDRAW,
         4 => READ,
+        5 => REASON,
         _ => ARRANGE,
     }
 }
@@ -158,10 +185,19 @@ fn on_table(k: u32) -> u32 {
 // The question of a case.
 pub fn kind_of(state: &mut u64, question: u32) -> u32 {
     match question {
-        ALL_BUT_ARRANGE => on_table(below(state, 5)),
-        ALL => on_table(below(state, 6)),
+        ALL_BUT_ARRANGE => on_table(below(state, 6)),
+        ALL => on_table(below(state, 7)),
+        MOVE_OR_WITHDRAW => on_table(2 + below(state, 2)),
         _ => question,
     }
+}
+
+// How many records the table of a case has.
+pub fn records_of(state: &mut u64, run: Run) -> u32
+    ensures { λ r. ⌜ r ≤ mostRecords ⌝ }
+{
+    let n = std::num::wrapping_add_u32(run.fewest, below(state, run.more % MOST + 1));
+    n % (MOST + 1)
 }
 
 // What is asked, as the record that a made table starts from.
@@ -187,7 +223,8 @@ pub fn case_table(
     n: u32,
     table: &mut [u8],
 ) -> usize
-    requires { ⌜ n ≤ 2001 ⌝ }
+    requires { ⌜ n ≤ mostRecords ⌝ }
+    ensures { λ r. ⌜ r ≤ room ⌝ }
 {
     let length = made_table(state, asked_record(q), id, n as usize, run.style, table);
     if run.damage {

@@ -14,6 +14,7 @@ use super::words::east;
 use super::words::north;
 use super::words::site_at;
 ghost use Prim.Native.Nat.{_≤_, _<_};
+ghost use Rattle.cases.specs.Sizes.{mostRecords, longest};
 
 // Records at the limits of what is asked and of each other.
 pub(crate) const AT_LIMITS: u32 = 0;
@@ -26,6 +27,15 @@ pub(crate) const LOW: u32 = 2;
 
 // Records at the limits of what is asked, many of them as far from it as another one.
 pub(crate) const EQUALS: u32 = 3;
+
+// Records within some km of what is asked, on its channel or up to 3 beside: all are short to it.
+pub(crate) const CROWDED: u32 = 4;
+
+// A reach of some hundred km, in seconds.
+const WIDE: u32 = 20_000;
+
+// A reach of some km, within which stations up to 3 channels from each other are short.
+const NARROW: u32 = 400;
 
 // An end of a range, or any place within it.
 fn place_within(state: &mut u64, most: u32) -> u32
@@ -98,12 +108,8 @@ fn any_channel(state: &mut u64) -> u32
     201 + below(state, 100)
 }
 
-// A record's channel near another; any where that falls out of range.
-fn near_channel(state: &mut u64, channel: u32) -> u32 {
-    if once_in(state, 4) {
-        return any_channel(state);
-    }
-    let d = difference(state);
+// A record's channel by a difference above or below another; any where that falls out of range.
+fn channel_by(state: &mut u64, channel: u32, d: u32) -> u32 {
     let near = if once_in(state, 2) {
         std::num::wrapping_add_u32(channel, d)
     } else {
@@ -116,6 +122,15 @@ fn near_channel(state: &mut u64, channel: u32) -> u32 {
         return any_channel(state);
     }
     near
+}
+
+// A record's channel near another, or any.
+fn near_channel(state: &mut u64, channel: u32) -> u32 {
+    if once_in(state, 4) {
+        return any_channel(state);
+    }
+    let d = difference(state);
+    channel_by(state, channel, d)
 }
 
 // Flags: one record in four is fixed.
@@ -150,14 +165,16 @@ fn record_at_limits(state: &mut u64, id: u32, from: Record) -> Record {
     }
 }
 
-// A record on a channel, within some hundred km of another.
-fn scattered_record(state: &mut u64, id: u32, channel: u32, from: Record) -> Record {
+// A record on a channel, at most a reach north or south and twice as far east or west of another.
+fn record_near(state: &mut u64, id: u32, channel: u32, from: Record, reach: u32) -> Record
+    requires { ⌜ reach ≤ 50000 ⌝ }
+{
     Record {
         id,
         channel,
         class: below(state, 8),
         flags: any_flags(state),
-        site: site_near(state, from.site, 20_000, 40_000),
+        site: site_near(state, from.site, reach, 2 * reach),
     }
 }
 
@@ -204,10 +221,15 @@ fn record_among_equals(state: &mut u64, id: u32, asked: Record, from: Record) ->
 fn made_record(state: &mut u64, id: u32, asked: Record, from: Record, style: u32) -> Record {
     if style == LOW {
         let low = 201 + below(state, 20);
-        return scattered_record(state, id, low, from);
+        return record_near(state, id, low, from, WIDE);
     }
     if style == EQUALS {
         return record_among_equals(state, id, asked, from);
+    }
+    if style == CROWDED {
+        let d = below(state, 4);
+        let channel = channel_by(state, asked.channel, d);
+        return record_near(state, id, channel, asked, NARROW);
     }
     if id == asked.id {
         return record_at_limits(state, id, asked);
@@ -216,7 +238,7 @@ fn made_record(state: &mut u64, id: u32, asked: Record, from: Record, style: u32
         return record_at_limits(state, id, from);
     }
     let channel = any_channel(state);
-    scattered_record(state, id, channel, from)
+    record_near(state, id, channel, from, WIDE)
 }
 
 // The first of two records, or once in three times the second.
@@ -236,8 +258,8 @@ pub(crate) fn made_table(
     style: u32,
     table: &mut [u8],
 ) -> usize
-    requires { ⌜ n ≤ 2001 ⌝ }
-    ensures { λ r. ⌜ r ≤ 32024 ⌝ }
+    requires { ⌜ n ≤ mostRecords ⌝ }
+    ensures { λ r. ⌜ r ≤ longest ⌝ }
 {
     put_header(table, n as u32);
     let mut from = asked;

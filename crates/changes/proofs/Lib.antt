@@ -4,5 +4,6 @@ pub mod Kept
 pub mod Apart
 pub mod Clean
 pub mod Results
+pub mod Crossing
 pub mod There
 pub mod Ways

@@ -33,12 +33,12 @@ pub one-result : (s : List ℕ) (c : Change) {entry exit exit′ : List ℕ} {r 
 one-result s c a b = one-answer a b
 
 -- a granted result: the table was accepted, and the buffer holds the image of the granted list from its start
-record Left (s : List ℕ) (c : Change) (entry exit : List ℕ) (n : ℕ) : Type 0 where
-  accepted : Accepted s
-  list : List Station
-  allowed : decide (stations s) c ≡ allow list
-  long : n ≡ length (encode list)
-  holds : exit ≡ encode list ++ drop n entry
+pub record Left (s : List ℕ) (c : Change) (entry exit : List ℕ) (n : ℕ) : Type 0 where
+  pub accepted : Accepted s
+  pub list : List Station
+  pub allowed : decide (stations s) c ≡ allow list
+  pub long : n ≡ length (encode list)
+  pub holds : exit ≡ encode list ++ drop n entry
 
 refused : (f : Refusal) (n : ℕ) → Granted n ≡ Refused f → ⊥
 refused f n e = let z : _≡_ {A = ℕ} 0 1 = cc in omega arith
@@ -57,7 +57,7 @@ fitted vs entry exit n a = go (ltb (length entry) (length vs)) refl
         let k : n ≡ length vs = same (a .said ∙ rw e) in
         (k, a .held ∙ rw (e, k))
 
-granted-result : (s : List ℕ) (c : Change) (entry exit : List ℕ) (n : ℕ) → Answered (changedFor s c) entry exit (Granted n) → Left s c entry exit n
+pub granted-result : (s : List ℕ) (c : Change) (entry exit : List ℕ) (n : ℕ) → Answered (changedFor s c) entry exit (Granted n) → Left s c entry exit n
 unfolding changedFor
 granted-result s c entry exit n a = by-judged (judged s) (decide (stations s) c) refl refl a
   where

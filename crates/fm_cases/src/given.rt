@@ -1,12 +1,15 @@
-// The cases whose answers are given: check and arrange with an id left aside, and reason.
+// The cases whose answers are given: check and arrange with an id left aside, reason, and read.
 use beside::compare_all_rows;
+use beside::compare_number;
 use beside::compare_one_place;
 use beside::compare_reason;
+use beside::second_number;
 use beside::second_reason;
 use beside::second_rows;
 use cases::GIVEN;
 use cases::GIVEN_BYTES;
 use cases::Question;
+use cases::READ;
 use cases::REASON;
 use cases::UNTOLD;
 use cases::given_case;
@@ -16,6 +19,18 @@ use tally::Notes;
 use tally::least;
 use tally::same_told;
 use tally::unlike;
+
+// Whether the answer to read or distance is the given one.
+pub(crate) fn number_as(q: Question, table: &[u8], number: u64, notes: &mut Notes) -> bool {
+    if !compare_number(q, table, notes) {
+        return false;
+    }
+    let answer = second_number(q, table);
+    if answer == number {
+        return true;
+    }
+    unlike(q, table, answer, number)
+}
 
 // Whether the answers to check or arrange, with all the room and with one place for rows, are the given ones.
 fn answers_as(q: Question, table: &[u8], all: u64, one: u64, notes: &mut Notes) -> bool {
@@ -52,6 +67,9 @@ fn reason_as(q: Question, table: &[u8], answer: u64, told: &[u32; 4], notes: &mu
 fn given_as(k: u32, table: &[u8], notes: &mut Notes) -> bool {
     let given = given_case(k);
     let q = given.question;
+    if q.kind == READ {
+        return number_as(q, table, given.answer, notes);
+    }
     if q.kind == REASON {
         return reason_as(q, table, given.answer, &given.told, notes);
     }

@@ -1,33 +1,52 @@
 // Runs of made cases.
+use beside::IMAGE_ROOM;
 use beside::compare;
 use cases::Run;
-use cases::below;
+use cases::TABLE_BYTES;
 use cases::case_table;
 use cases::first_id;
 use cases::kind_of;
 use cases::made_question;
+use cases::records_of;
 use tally::Notes;
 use tally::least;
 
 // Room for the longest table that is made.
-pub(crate) type Table = [u8; 32_100];
+pub(crate) type Table = [u8; TABLE_BYTES];
+
+// Room for the longest image.
+pub(crate) type Image = [u8; IMAGE_ROOM];
 
 // One made case.
-fn one_case(run: Run, state: &mut u64, table: &mut [u8], notes: &mut Notes) -> bool {
+fn one_case(
+    run: Run,
+    state: &mut u64,
+    table: &mut [u8],
+    mine: &mut [u8],
+    other: &mut [u8],
+    notes: &mut Notes,
+) -> bool {
     let kind = kind_of(state, run.question);
-    let n = (run.fewest % 2_002 + below(state, run.more % 2_002 + 1)) % 2_002;
+    let n = records_of(state, run);
     let id = first_id(state);
     let q = made_question(state, kind, id, n);
     let length = case_table(state, run, q, id, n, table);
     let end = least(length, table.len());
-    compare(state, q, &table[..end], notes)
+    compare(state, q, &table[..end], mine, other, notes)
 }
 
 // The cases of a run, up to the first difference; whether there is none.
-pub(crate) fn run_cases(run: Run, state: &mut u64, table: &mut Table, notes: &mut Notes) -> bool {
+pub(crate) fn run_cases(
+    run: Run,
+    state: &mut u64,
+    table: &mut Table,
+    mine: &mut Image,
+    other: &mut Image,
+    notes: &mut Notes,
+) -> bool {
     let mut left = run.cases;
     while 0 < left {
-        if !one_case(run, state, table, notes) {
+        if !one_case(run, state, table, mine, other, notes) {
             return false;
         }
         left -= 1;

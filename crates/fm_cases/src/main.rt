@@ -3,8 +3,10 @@ mod given;
 mod made;
 mod paper;
 
+use beside::IMAGE_ROOM;
 use cases::RUNS;
 use cases::SEED;
+use cases::TABLE_BYTES;
 use cases::run_of;
 use given::given_cases;
 use made::run_cases;
@@ -15,11 +17,20 @@ use tally::print_counts;
 
 // All made cases, up to the first difference; whether there is none.
 fn made_cases(notes: &mut Notes) -> bool {
-    let mut table = [0u8; 32_100];
+    let mut table = [0u8; TABLE_BYTES];
+    let mut mine = [0u8; IMAGE_ROOM];
+    let mut other = [0u8; IMAGE_ROOM];
     let mut state = SEED;
     let mut k: u32 = 0;
     while k < RUNS {
-        if !run_cases(run_of(k), &mut state, &mut table, notes) {
+        if !run_cases(
+            run_of(k),
+            &mut state,
+            &mut table,
+            &mut mine,
+            &mut other,
+            notes,
+        ) {
             return false;
         }
         k += 1;

@@ -1,8 +1,7 @@
 // The paper's cases, with the numbers that it gives.
+use super::given::number_as;
 use beside::compare_all_rows;
-use beside::compare_number;
 use beside::first_rows;
-use beside::second_number;
 use beside::second_rows;
 use cases::ARRANGE;
 use cases::CHECK;
@@ -41,15 +40,7 @@ fn rows_as(q: Question, table: &[u8], count: u64, place: usize, row: Row, notes:
 
 // Whether D of two points on the equator, so many seconds from each other, is the paper's.
 fn distance_as(seconds: u32, km: u64, notes: &mut Notes) -> bool {
-    let q = paper_question(DISTANCE, 0, 0, 0, seconds);
-    if !compare_number(q, b"", notes) {
-        return false;
-    }
-    let answer = second_number(q, b"");
-    if answer == km {
-        return true;
-    }
-    unlike(q, b"", answer, km)
+    number_as(paper_question(DISTANCE, 0, 0, 0, seconds), b"", km, notes)
 }
 
 // Whether a station of a class is short to a proposal of that class with the paper's D and R.

@@ -7,7 +7,7 @@ use native.Mathlib.Omega.{arith}
 use lib.IntN.{ℤ}
 use lib.ListN.{length}
 use Rattle.ground.proofs.Cases.{either}
-use Rattle.refusals.specs.Faults.{Fault, refusal, UnderEightBytes, MarkDiffers, VersionUnknown, SixthByteSet, CountOver, LengthWrong, IdNotAscending, ChannelOutside, ClassOver, FlagsOver, LatitudeOutside, LongitudeOutside, AskedChannel, AskedClass, AskedZone, NotPermitted, AskedSite, IdZero, IdPresent, Short, TableFull, DoesNotFit, IdAbsent, TooFar, NotMovable}
+use Rattle.refusals.specs.Faults.{Fault, refusal, UnderEightBytes, MarkDiffers, VersionUnknown, SixthByteSet, CountOutside, LengthWrong, IdNotAscending, ChannelOutside, ClassOver, FlagsOver, LatitudeOutside, LongitudeOutside, AskedChannel, AskedClass, AskedZone, NotPermitted, AskedSite, IdZero, IdPresent, Short, TableFull, DoesNotFit, IdAbsent, TooFar, NotMovable}
 use Rattle.versions.specs.Version.{top}
 use Rattle.stations.specs.Image.{stations, numbers, headed, verdict, scan, scanned, stages, then, tableOf, judged, version, count}
 use Rattle.stations.specs.Lists.{withId}
@@ -47,7 +47,7 @@ unfolding numbers
 found-numbers s =
     either Found _ _ _ (λ _. fault VersionUnknown)
     (λ _. either Found _ _ _ (λ _. fault SixthByteSet)
-    (λ _. either Found _ _ _ (λ _. fault CountOver)
+    (λ _. either Found _ _ _ (λ _. fault CountOutside)
     (λ _. either Found _ _ _ (λ _. fault LengthWrong) (λ _. sound))))
 
 found-headed : (s : List ℕ) → Found (headed s)
@@ -203,7 +203,7 @@ above-0 UnderEightBytes = omega arith
 above-0 MarkDiffers = omega arith
 above-0 VersionUnknown = omega arith
 above-0 SixthByteSet = omega arith
-above-0 CountOver = omega arith
+above-0 CountOutside = omega arith
 above-0 LengthWrong = omega arith
 above-0 (IdNotAscending i) = omega arith
 above-0 (ChannelOutside i) = omega arith

@@ -53,14 +53,14 @@ pub fn grant_withdraw(table: &[u8], p: usize, image: &mut [u8]) -> Answer
     ensures { λ a. ⌜ Answered (grant (encode (without (stationAt (now (table .entry)) p .id) (stations (now (table .entry)))))) (now (image .entry)) (now (image .exit)) a ⌝ }
 {
     let n = stations::count_of(table);
-    let m = n - 1;
+    let left = n - 1;
     let need = table.len() - 16;
     let told = need as u32;
     if image.len() < need {
         return desk::refused_with(refusals::DOES_NOT_FIT, told);
     }
     let after = p + 1;
-    let version = versions::version_for(m);
-    write_without(table, p, after, version, m as u16, image);
+    let version = versions::version_for(left);
+    write_without(table, p, after, version, left as u16, image);
     Answer::Granted(told)
 }

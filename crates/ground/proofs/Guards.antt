@@ -37,6 +37,10 @@ pub or-was : (a b : Bool) → (a || b) ≡ false → (a ≡ false) × (b ≡ fal
 or-was true b e = absurd (true≢false e)
 or-was false b e = (refl, e)
 
+pub or-alone : (a : Bool) → (a || false) ≡ a
+or-alone true = refl
+or-alone false = refl
+
 pub or-first : (a b : Bool) → a ≡ true → (a || b) ≡ true
 or-first a b e = rw e
 

@@ -1,5 +1,5 @@
--- 01, Refusal numbers and their order: each fault by its name, with the number that it is given and what it returns also.
--- Assumes nothing.
+-- 01, Refusal numbers and their order, with 23 as 02, R-1, and with 3, 5 and 21 as R-3 has them: each fault by its name, with the
+-- number that it is given and what it returns also. Assumes nothing.
 use Prim.Native.Nat.{ℕ}
 use Rattle.refusals.specs.declared.Refusal.{Refusal}
 
@@ -8,12 +8,12 @@ pub data Fault : Type 0 where
   UnderEightBytes : Fault
   -- mark differs
   MarkDiffers : Fault
-  -- version not 1
+  -- version neither 1 nor 2
   VersionUnknown : Fault
   -- sixth byte not 0
   SixthByteSet : Fault
-  -- count over 2,000
-  CountOver : Fault
+  -- count outside its version's range
+  CountOutside : Fault
   -- length not 8 + 16n
   LengthWrong : Fault
   -- id 0 or not above the one before
@@ -44,11 +44,11 @@ pub data Fault : Type 0 where
   IdPresent : (position : ℕ) → Fault
   -- Add, Move: short
   Short : (position : ℕ) → Fault
-  -- Add: table already holds 2,000
+  -- Add: table already holds 4,000
   TableFull : Fault
   -- the answer does not fit
   DoesNotFit : (need : ℕ) → Fault
-  -- Withdraw, Move: id absent
+  -- Withdraw, Move: id absent; Check, Arrange, the reason: a nonzero id to leave aside is absent
   IdAbsent : Fault
   -- distance over 475
   TooFar : Fault
@@ -64,7 +64,7 @@ refusal UnderEightBytes = numbered 1 0
 refusal MarkDiffers = numbered 2 0
 refusal VersionUnknown = numbered 3 0
 refusal SixthByteSet = numbered 4 0
-refusal CountOver = numbered 5 0
+refusal CountOutside = numbered 5 0
 refusal LengthWrong = numbered 6 0
 refusal (IdNotAscending position) = numbered 7 position
 refusal (ChannelOutside position) = numbered 8 position

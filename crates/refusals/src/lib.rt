@@ -1,4 +1,4 @@
-// The refusals of 01: a number with a name, and what it returns also.
+// The refusals of 01 and 02: a number with a name, and what it returns also.
 
 // A refusal's extra number, which is a position, the room needed, or 0; and its number.
 pub struct Refusal {
@@ -10,12 +10,12 @@ pub struct Refusal {
 pub const UNDER_EIGHT_BYTES: u32 = 1;
 // mark differs
 pub const MARK_DIFFERS: u32 = 2;
-// version not 1
+// version neither 1 nor 2
 pub const VERSION_UNKNOWN: u32 = 3;
 // sixth byte not 0
 pub const SIXTH_BYTE_SET: u32 = 4;
-// count over 2,000
-pub const COUNT_OVER: u32 = 5;
+// count outside its version's range
+pub const COUNT_OUTSIDE: u32 = 5;
 // length not 8 + 16n
 pub const LENGTH_WRONG: u32 = 6;
 // id 0 or not above the one before
@@ -46,11 +46,11 @@ pub const ID_ZERO: u32 = 18;
 pub const ID_PRESENT: u32 = 19;
 // Add, Move: short
 pub const SHORT: u32 = 20;
-// Add: table already holds 2,000
+// Add: table already holds 4,000
 pub const TABLE_FULL: u32 = 21;
 // the answer does not fit
 pub const DOES_NOT_FIT: u32 = 22;
-// Withdraw, Move: id absent
+// Withdraw, Move: id absent; Check, Arrange, the reason: a nonzero id to leave aside is absent
 pub const ID_ABSENT: u32 = 23;
 // distance over 475
 pub const TOO_FAR: u32 = 24;

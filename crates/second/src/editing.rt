@@ -17,6 +17,7 @@ use super::pairs::first_short;
 use super::proposal::fault;
 use super::proposal::outside;
 use super::proposal::proposed;
+use super::ranges::CAPACITY;
 use super::records::Station;
 use super::records::movable;
 use super::records::on_channel;
@@ -25,10 +26,11 @@ use super::records::position;
 use super::records::station_at;
 ghost use Prim.Native.Nat.{_≤_, _<_};
 ghost use Rattle.second.specs.Answer.{Packed};
+ghost use Rattle.second.specs.Sizes.{capacity};
 
 // Writes the image with a record set in at a position.
 fn put_added(table: &[u8], n: usize, p: usize, new: Station, image: &mut [u8])
-    requires { ⌜ (n < 2000) × (p ≤ n) ⌝ }
+    requires { ⌜ (n < capacity) × (p ≤ n) ⌝ }
 {
     put_header(image, n + 1);
     copy_records(table, 0, p, image, 0);
@@ -38,7 +40,7 @@ fn put_added(table: &[u8], n: usize, p: usize, new: Station, image: &mut [u8])
 
 // Writes the image with the record at a position left out.
 fn put_withdrawn(table: &[u8], n: usize, p: usize, image: &mut [u8])
-    requires { ⌜ (n ≤ 2000) × (p < n) ⌝ }
+    requires { ⌜ (n ≤ capacity) × (p < n) ⌝ }
 {
     put_header(image, n - 1);
     copy_records(table, 0, p, image, 0);
@@ -47,7 +49,7 @@ fn put_withdrawn(table: &[u8], n: usize, p: usize, image: &mut [u8])
 
 // Writes the image with another record at a position.
 fn put_moved(table: &[u8], n: usize, p: usize, moved: Station, image: &mut [u8])
-    requires { ⌜ (n ≤ 2000) × (p < n) ⌝ }
+    requires { ⌜ (n ≤ capacity) × (p < n) ⌝ }
 {
     put_header(image, n);
     copy_records(table, 0, n, image, 0);
@@ -56,7 +58,7 @@ fn put_moved(table: &[u8], n: usize, p: usize, moved: Station, image: &mut [u8])
 
 // Sets a station into a table of n stations.
 fn add_to(table: &[u8], n: usize, new: Station, image: &mut [u8]) -> u64
-    requires { ⌜ n ≤ 2000 ⌝ }
+    requires { ⌜ n ≤ capacity ⌝ }
     ensures { λ r. do ⌜ Packed (← ⟦image.len()⟧ .entry) r ⌝ }
 {
     let id = new.id;
@@ -71,7 +73,7 @@ fn add_to(table: &[u8], n: usize, new: Station, image: &mut [u8]) -> u64
     if blocker < n {
         return refused(TOO_SHORT, blocker as u64);
     }
-    if n == 2_000 {
+    if n == CAPACITY {
         return refused(TABLE_FULL, 0);
     }
     let need = size(n + 1);
@@ -136,7 +138,7 @@ pub fn withdraw(table: &[u8], id: u32, image: &mut [u8]) -> u64
 
 // Moves the station of an id, in a table of n stations, to a channel.
 fn move_in(table: &[u8], n: usize, id: u64, channel: u64, image: &mut [u8]) -> u64
-    requires { ⌜ n ≤ 2000 ⌝ }
+    requires { ⌜ n ≤ capacity ⌝ }
     ensures { λ r. do ⌜ Packed (← ⟦image.len()⟧ .entry) r ⌝ }
 {
     let p = position(table, n, id);

@@ -11,12 +11,13 @@ use super::records::on_channel;
 use super::records::station_at;
 use super::rows::put_row;
 use super::study::judge_study;
-ghost use Prim.Native.Nat.{_+_, _≤_, _<_};
+ghost use Prim.Native.Nat.{_+_, _*_, _≤_, _<_};
 ghost use Rattle.second.specs.Answer.{Packed};
+ghost use Rattle.second.specs.Sizes.{capacity};
 
 // Whether a station, on its new channel, is short neither to the new station nor to any other that is not left aside.
 fn clean(table: &[u8], n: usize, new: Station, moved: Station) -> bool
-    requires { ⌜ n ≤ 2000 ⌝ }
+    requires { ⌜ n ≤ capacity ⌝ }
 {
     if short(moved, new) {
         return false;
@@ -34,7 +35,7 @@ fn put_clean(
     rows: &mut [u32],
     at: usize,
 ) -> usize
-    requires { ⌜ (n ≤ 2000) × (p < n) × (at ≤ 1000000000) ⌝ }
+    requires { ⌜ (n ≤ capacity) × (p < n) × (at ≤ 1000000000) ⌝ }
     ensures { λ r. ⌜ r ≤ at + 3 ⌝ }
 {
     let old = station_at(table, p);
@@ -56,7 +57,7 @@ fn put_channels(
     rows: &mut [u32],
     start: usize,
 ) -> usize
-    requires { ⌜ (n ≤ 2000) × (p < n) × (start ≤ 900000000) ⌝ }
+    requires { ⌜ (n ≤ capacity) × (p < n) × (start ≤ 900000000) ⌝ }
     ensures { λ r. ⌜ r ≤ start + 240 ⌝ }
 {
     let mut at = start;
@@ -77,7 +78,7 @@ fn put_mover(
     rows: &mut [u32],
     start: usize,
 ) -> usize
-    requires { ⌜ (n ≤ 2000) × (p < n) × (start ≤ 900000000) ⌝ }
+    requires { ⌜ (n ≤ capacity) × (p < n) × (start ≤ 900000000) ⌝ }
     ensures { λ r. ⌜ r ≤ start + 240 ⌝ }
 {
     let old = station_at(table, p);
@@ -95,8 +96,8 @@ fn put_mover(
 
 // Writes the rows of one new channel, and gives the place behind them.
 fn put_channel(table: &[u8], n: usize, new: Station, rows: &mut [u32], start: usize) -> usize
-    requires { ⌜ (n ≤ 2000) × (start ≤ 400000000) ⌝ }
-    ensures { λ r. ⌜ r ≤ start + 480003 ⌝ }
+    requires { ⌜ (n ≤ capacity) × (start ≤ 400000000) ⌝ }
+    ensures { λ r. ⌜ r ≤ start + 240 * capacity ⌝ }
 {
     if first_short(table, n, new, new.id) == n {
         return put_row(rows, start, new.channel, 0, 0);
@@ -120,8 +121,8 @@ fn put_asked(
     rows: &mut [u32],
     start: usize,
 ) -> usize
-    requires { ⌜ (n ≤ 2000) × (start ≤ 400000000) ⌝ }
-    ensures { λ r. ⌜ r ≤ start + 480003 ⌝ }
+    requires { ⌜ (n ≤ capacity) × (start ≤ 400000000) ⌝ }
+    ensures { λ r. ⌜ r ≤ start + 240 * capacity ⌝ }
 {
     if new.channel < first {
         return start;
@@ -141,8 +142,8 @@ fn put_arrange(
     new: Station,
     rows: &mut [u32],
 ) -> usize
-    requires { ⌜ n ≤ 2000 ⌝ }
-    ensures { λ r. ⌜ r ≤ 200000000 ⌝ }
+    requires { ⌜ n ≤ capacity ⌝ }
+    ensures { λ r. ⌜ r ≤ 80 * 240 * capacity ⌝ }
 {
     let mut at: usize = 0;
     let mut channel: u64 = 221;
@@ -155,8 +156,8 @@ fn put_arrange(
 
 // How many numbers the rows of the new channels first to last are.
 fn count_arrange(table: &[u8], n: usize, first: u64, last: u64, new: Station) -> usize
-    requires { ⌜ n ≤ 2000 ⌝ }
-    ensures { λ r. ⌜ r ≤ 200000000 ⌝ }
+    requires { ⌜ n ≤ capacity ⌝ }
+    ensures { λ r. ⌜ r ≤ 80 * 240 * capacity ⌝ }
 {
     let mut none = [0u32; 1];
     put_arrange(table, n, first, last, new, &mut none)

@@ -13,15 +13,15 @@ use super::answer::SIXTH_BYTE;
 use super::answer::UNDER_EIGHT_BYTES;
 use super::big_endian::one;
 use super::big_endian::two;
+use super::ranges::range_of;
+use super::ranges::unknown;
 use super::records::Station;
 use super::records::id_at;
 use super::records::station_at;
 use second_rule::LATITUDES;
 use second_rule::LONGITUDES;
 ghost use Prim.Native.Nat.{_≤_};
-
-// The most stations that a table holds.
-const MOST: u64 = 2_000;
+ghost use Rattle.second.specs.Sizes.{capacity};
 
 // 1 to 4, or 0: what is wrong with the first six bytes.
 fn header_fault(table: &[u8]) -> u64
@@ -36,7 +36,7 @@ fn header_fault(table: &[u8]) -> u64
     if one(table, 2) != 0x53 {
         return OTHER_MARK;
     }
-    if two(table, 3) != 1 {
+    if unknown(two(table, 3)) {
         return OTHER_VERSION;
     }
     if one(table, 5) != 0 {
@@ -47,7 +47,7 @@ fn header_fault(table: &[u8]) -> u64
 
 // The id before a position; 0 before the first.
 fn id_before(table: &[u8], position: usize) -> u64
-    requires { ⌜ position ≤ 2000 ⌝ }
+    requires { ⌜ position ≤ capacity ⌝ }
 {
     if position == 0 {
         return 0;
@@ -57,7 +57,7 @@ fn id_before(table: &[u8], position: usize) -> u64
 
 // 7 to 12, or 0: what is wrong with a record, fields in order.
 fn record_fault(table: &[u8], position: usize) -> u64
-    requires { ⌜ position ≤ 2000 ⌝ }
+    requires { ⌜ position ≤ capacity ⌝ }
     ensures { λ r. ⌜ r ≤ 12 ⌝ }
 {
     let s = station_at(table, position);
@@ -101,7 +101,7 @@ pub(crate) struct Judged {
 
 // A refusal without an extra number, as a judgement.
 pub(crate) fn unfit(number: u64) -> Judged
-    ensures { λ r. ⌜ (r .number ≤ number) × (r .stations ≤ 2000) ⌝ }
+    ensures { λ r. ⌜ (r .number ≤ number) × (r .stations ≤ capacity) ⌝ }
 {
     Judged {
         number: number,
@@ -112,8 +112,8 @@ pub(crate) fn unfit(number: u64) -> Judged
 
 // The judgement by the records of a table: the first fault counts.
 fn judge_records(table: &[u8], n: usize) -> Judged
-    requires { ⌜ n ≤ 2000 ⌝ }
-    ensures { λ r. ⌜ (r .number ≤ 12) × (r .stations ≤ 2000) ⌝ }
+    requires { ⌜ n ≤ capacity ⌝ }
+    ensures { λ r. ⌜ (r .number ≤ 12) × (r .stations ≤ capacity) ⌝ }
 {
     let mut i: usize = 0;
     while i < n {
@@ -136,14 +136,18 @@ fn judge_records(table: &[u8], n: usize) -> Judged
 
 // The judgement of a table.
 pub(crate) fn judge(table: &[u8]) -> Judged
-    ensures { λ r. ⌜ (r .number ≤ 12) × (r .stations ≤ 2000) ⌝ }
+    ensures { λ r. ⌜ (r .number ≤ 12) × (r .stations ≤ capacity) ⌝ }
 {
     let fault = header_fault(table);
     if fault != 0 {
         return unfit(fault);
     }
+    let range = range_of(two(table, 3));
     let n = two(table, 6);
-    if MOST < n {
+    if n < range.least {
+        return unfit(OTHER_COUNT);
+    }
+    if range.most < n {
         return unfit(OTHER_COUNT);
     }
     if table.len() as u64 != 8 + 16 * n {

@@ -8,6 +8,7 @@ mod image;
 mod judgement;
 mod pairs;
 mod proposal;
+mod ranges;
 mod reading;
 mod reasoning;
 mod records;

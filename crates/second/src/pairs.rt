@@ -4,6 +4,7 @@ use super::records::station_at;
 use second_rule::kilometres;
 use second_rule::separation;
 ghost use Prim.Native.Nat.{_≤_};
+ghost use Rattle.second.specs.Sizes.{capacity};
 
 // R of two stations, 0 where there is no requirement.
 pub(crate) fn required(a: Station, b: Station) -> u64 {
@@ -46,7 +47,7 @@ fn in_the_way(s: Station, station: Station, aside: u64) -> bool {
 
 // The first position whose station is in the way of the given one, an id left aside; n where there is none.
 pub(crate) fn first_short(table: &[u8], n: usize, station: Station, aside: u64) -> usize
-    requires { ⌜ n ≤ 2000 ⌝ }
+    requires { ⌜ n ≤ capacity ⌝ }
     ensures { λ r. ⌜ r ≤ n ⌝ }
 {
     let mut i: usize = 0;

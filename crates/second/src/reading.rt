@@ -7,10 +7,11 @@ use super::pairs::apart;
 use super::proposal::out_of_range;
 use super::proposal::proposed;
 ghost use Rattle.second.specs.Answer.{Packed};
+ghost use Rattle.second.specs.Sizes.{capacity};
 
 // The number of stations of a table, or its refusal.
 pub fn read(table: &[u8]) -> u64
-    ensures { λ r. ⌜ Packed 2000 r ⌝ }
+    ensures { λ r. ⌜ Packed capacity r ⌝ }
 {
     let judged = judge(table);
     let number = judged.number;

@@ -14,10 +14,11 @@ use super::study::judge_study;
 use second_rule::column;
 ghost use Prim.Native.Nat.{_≤_};
 ghost use Rattle.second.specs.Answer.{Packed};
+ghost use Rattle.second.specs.Sizes.{capacity, longest};
 
 // By how many km the station at a position is short to the proposal; 0 where it is not, or is left aside.
 fn shortfall_at(table: &[u8], new: Station, position: usize) -> u64
-    requires { ⌜ position ≤ 2000 ⌝ }
+    requires { ⌜ position ≤ capacity ⌝ }
 {
     let s = station_at(table, position);
     if s.id == new.id {
@@ -28,7 +29,7 @@ fn shortfall_at(table: &[u8], new: Station, position: usize) -> u64
 
 // Whether some station is short to the proposal by more than so many km.
 fn exceeded(table: &[u8], n: usize, new: Station, km: u64) -> bool
-    requires { ⌜ n ≤ 2000 ⌝ }
+    requires { ⌜ n ≤ capacity ⌝ }
 {
     let mut i: usize = 0;
     while i < n {
@@ -42,7 +43,7 @@ fn exceeded(table: &[u8], n: usize, new: Station, km: u64) -> bool
 
 // Whether the station at a position is short to the proposal, and no other by more.
 fn is_worst(table: &[u8], n: usize, new: Station, position: usize) -> bool
-    requires { ⌜ (n ≤ 2000) × (position ≤ 2000) ⌝ }
+    requires { ⌜ (n ≤ capacity) × (position ≤ capacity) ⌝ }
 {
     let km = shortfall_at(table, new, position);
     if km == 0 {
@@ -53,7 +54,7 @@ fn is_worst(table: &[u8], n: usize, new: Station, position: usize) -> bool
 
 // The first such position; n where there is none.
 fn first_worst(table: &[u8], n: usize, new: Station) -> usize
-    requires { ⌜ n ≤ 2000 ⌝ }
+    requires { ⌜ n ≤ capacity ⌝ }
     ensures { λ r. ⌜ r ≤ n ⌝ }
 {
     let mut i: usize = 0;
@@ -84,7 +85,7 @@ pub fn reason(
     aside: u32,
     reason: &mut [u32; 4],
 ) -> u64
-    ensures { λ r. ⌜ Packed 32008 r ⌝ }
+    ensures { λ r. ⌜ Packed longest r ⌝ }
 {
     let wrong = fault(channel, channel, class, zone, lat, lon);
     let judged = judge_study(table, wrong, aside);

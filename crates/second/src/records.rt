@@ -3,6 +3,7 @@ use super::big_endian::four;
 use super::big_endian::one;
 use super::big_endian::two;
 ghost use Prim.Native.Nat.{_≤_, _<_};
+ghost use Rattle.second.specs.Sizes.{capacity};
 
 // A station or a proposal; the site counts from the southern and the western end of its range. What is proposed to check, arrange
 // or reason has the id of the station left aside, 0 for none.
@@ -33,7 +34,7 @@ pub(crate) fn east(word: u64) -> u64
 
 // The station at a position.
 pub(crate) fn station_at(table: &[u8], position: usize) -> Station
-    requires { ⌜ position ≤ 2000 ⌝ }
+    requires { ⌜ position ≤ capacity ⌝ }
 {
     let at = 8 + 16 * position;
     Station {
@@ -48,7 +49,7 @@ pub(crate) fn station_at(table: &[u8], position: usize) -> Station
 
 // The id at a position.
 pub(crate) fn id_at(table: &[u8], position: usize) -> u64
-    requires { ⌜ position ≤ 2000 ⌝ }
+    requires { ⌜ position ≤ capacity ⌝ }
 {
     four(table, 8 + 16 * position)
 }
@@ -75,7 +76,7 @@ pub(crate) fn movable(station: Station) -> bool {
 
 // The first position whose id is not below the given one; n where there is none.
 pub(crate) fn place(table: &[u8], n: usize, id: u64) -> usize
-    requires { ⌜ n ≤ 2000 ⌝ }
+    requires { ⌜ n ≤ capacity ⌝ }
     ensures { λ r. ⌜ r ≤ n ⌝ }
 {
     let mut i: usize = 0;
@@ -90,7 +91,7 @@ pub(crate) fn place(table: &[u8], n: usize, id: u64) -> usize
 
 // The position of an id; n where it is absent.
 pub(crate) fn position(table: &[u8], n: usize, id: u64) -> usize
-    requires { ⌜ n ≤ 2000 ⌝ }
+    requires { ⌜ n ≤ capacity ⌝ }
     ensures { λ r. ⌜ r ≤ n ⌝ }
 {
     let p = place(table, n, id);
@@ -102,7 +103,7 @@ pub(crate) fn position(table: &[u8], n: usize, id: u64) -> usize
 
 // Whether an id other than 0 is that of no station.
 pub(crate) fn absent(table: &[u8], n: usize, id: u64) -> bool
-    requires { ⌜ n ≤ 2000 ⌝ }
+    requires { ⌜ n ≤ capacity ⌝ }
 {
     if id == 0 {
         return false;

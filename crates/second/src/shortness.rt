@@ -10,8 +10,9 @@ use super::records::Station;
 use super::records::station_at;
 use super::rows::put_row;
 use super::study::judge_study;
-ghost use Prim.Native.Nat.{_+_, _≤_};
+ghost use Prim.Native.Nat.{_+_, _*_, _≤_};
 ghost use Rattle.second.specs.Answer.{Packed};
+ghost use Rattle.second.specs.Sizes.{capacity};
 
 // Writes the row of a station if it is short to the proposal and not left aside, and gives the place behind it.
 fn put_short(new: Station, s: Station, rows: &mut [u32], at: usize) -> usize
@@ -29,8 +30,8 @@ fn put_short(new: Station, s: Station, rows: &mut [u32], at: usize) -> usize
 
 // Writes the rows of all short stations where there is room, and gives how many numbers they are.
 fn put_check(table: &[u8], n: usize, new: Station, rows: &mut [u32]) -> usize
-    requires { ⌜ n ≤ 2000 ⌝ }
-    ensures { λ r. ⌜ r ≤ 6000 ⌝ }
+    requires { ⌜ n ≤ capacity ⌝ }
+    ensures { λ r. ⌜ r ≤ 3 * capacity ⌝ }
 {
     let mut at: usize = 0;
     let mut i: usize = 0;
@@ -43,8 +44,8 @@ fn put_check(table: &[u8], n: usize, new: Station, rows: &mut [u32]) -> usize
 
 // How many numbers the rows of all short stations are.
 fn count_check(table: &[u8], n: usize, new: Station) -> usize
-    requires { ⌜ n ≤ 2000 ⌝ }
-    ensures { λ r. ⌜ r ≤ 6000 ⌝ }
+    requires { ⌜ n ≤ capacity ⌝ }
+    ensures { λ r. ⌜ r ≤ 3 * capacity ⌝ }
 {
     let mut none = [0u32; 1];
     put_check(table, n, new, &mut none)

@@ -1,6 +1,6 @@
 -- How far two stations reach along the channels, by S and four squares that fall. Assumes nothing.
-use mathlib.Core.Path.{_≡_, refl, sym, ap, _∙_}
-use mathlib.Core.Bool.{Bool, true, false, _||_}
+use mathlib.Core.Path.{_≡_, sym, ap, _∙_}
+use mathlib.Core.Bool.{Bool, false}
 use mathlib.Core.List.{List}
 use Prim.Native.Nat.{ℕ, zero, suc, _^_, _≤_, _<_}
 use native.Mathlib.Omega.{arith}
@@ -8,6 +8,7 @@ use native.Mathlib.Decide.{ℕ-discrete, decLt}
 use lib.Dec.{ltb, lit<}
 use borrow.Author.Tests.{lt-ltb, le-ltb, eq-eqb, ne-eqb}
 use Rattle.ground.specs.Guard.{given}
+use Rattle.ground.proofs.Guards.{or-alone}
 use Rattle.distance.specs.Distance.{S, D}
 use Rattle.part73.specs.Columns.{gap, column}
 use Rattle.part73.specs.Separations.{Separations}
@@ -89,11 +90,7 @@ module _ {km : ℕ → ℕ → ℕ → ℕ} (table : Separations km) where
       low l =
           limit (omega (arith, column-low d l))
           ∙ sym (u .low d l)
-          ∙ rw (ne-eqb d 53 (λ e. omega arith), ne-eqb d 54 (λ e. omega arith)) (sym (or-none (ltb d (r .steps))))
-        where
-          or-none : (t : Bool) → (t || false) ≡ t
-          or-none true = refl
-          or-none false = refl
+          ∙ rw (ne-eqb d 53 (λ e. omega arith), ne-eqb d 54 (λ e. omega arith)) (sym (or-alone (ltb d (r .steps))))
 
       go : Dec (3 < d) → Dec (d ≡ 53) → Dec (d ≡ 54) → ltb (D s) (km a b (column d)) ≡ hits r d
       go (no n) x y = low (omega arith)

@@ -8,12 +8,14 @@ use Prim.Native.Nat.{ℕ, suc, _+_, _≤_, _<_}
 use native.Mathlib.Omega.{arith}
 use native.Mathlib.Decide.{decLt}
 use lib.Dec.{eqb, ltb, leb}
-use lib.ListN.{length, take, drop, length-map}
+use lib.ListN.{length, take, drop, length-map, length-append, length-drop}
+use lib.Seq.{length-take-le}
 use borrow.Author.Tests.{eqb-true, eqb-false, ne-eqb, lt-ltb, le-ltb, le-leb, lt-leb, ltb-true, ltb-false, not-true}
 use Rattle.ground.specs.Guard.{given}
 use Rattle.ground.specs.Lists.{_∈_, keep, some, first}
 use Rattle.ground.proofs.Guards.{or-was}
 use Rattle.ground.proofs.Cases.{either}
+use Rattle.ground.proofs.Firsts.{some-first}
 use Rattle.ground.proofs.Keeps.{length-keep}
 use Rattle.ground.proofs.Order.{ahead, none, ahead-of, rest-of, in-keep, in-map, ascending-map}
 use Rattle.stations.specs.Lists.{hasId, fromId, insert, without, onto, ontoIf, rechannel}
@@ -94,6 +96,13 @@ module _ (id : ℕ) where
   pub length-without : (ss : List Station) → length (without id ss) ≤ length ss
   unfolding without
   length-without ss = length-keep (λ x. not (hasId id x)) ss
+
+  -- one less, where the id stands there
+  pub one-less : (ss : List Station) → Ascends ss → some (hasId id) ss ≡ true → length (without id ss) + 1 ≡ length ss
+  one-less ss a e =
+      let p = first (hasId id) ss in
+      let h : p < length ss = ltb-true p (length ss) (sym (some-first (hasId id) ss) ∙ e) in
+      rw (without-cut ss a, length-append (take p ss) (drop (suc p) ss), length-take-le p ss (omega arith), length-drop (suc p) ss) (omega arith)
 
   pub in-without : {x : Station} (ss : List Station) → (x ∈ without id ss) ↔ ((x ∈ ss) × (x .id ≡ id → ⊥))
   unfolding without

@@ -9,7 +9,7 @@ use lib.ListN.{length}
 use borrow.Author.Tests.{le-ltb, ne-eqb}
 use Rattle.ground.specs.Guard.{given}
 use Rattle.refusals.specs.declared.Refusal.{Refusal}
-use Rattle.refusals.specs.Faults.{CountOver, LengthWrong}
+use Rattle.refusals.specs.Faults.{CountOutside, LengthWrong}
 use Rattle.wire.proofs.Alike.{Alike, be-alike}
 use Rattle.versions.specs.Version.{carries, limit}
 use Rattle.versions.proofs.Versions.{few}
@@ -25,7 +25,7 @@ Long s = 8 + 16 * limit < length s
 
 -- the length is wrong, whatever it is
 wrong : (v n k l : ℕ) → 8 + 16 * limit < k → 8 + 16 * limit < l → (b : Bool) → carries v n ≡ b
-    → given (not b) (faulty CountOver) (given (not (eqb k (8 + 16 * n))) (faulty LengthWrong) Sound) ≡ given (not b) (faulty CountOver) (given (not (eqb l (8 + 16 * n))) (faulty LengthWrong) Sound)
+    → given (not b) (faulty CountOutside) (given (not (eqb k (8 + 16 * n))) (faulty LengthWrong) Sound) ≡ given (not b) (faulty CountOutside) (given (not (eqb l (8 + 16 * n))) (faulty LengthWrong) Sound)
 unfolding given
 wrong v n k l hk hl false e = refl
 wrong v n k l hk hl true e =

@@ -13,7 +13,7 @@ use Rattle.ground.specs.Lists.{first}
 use Rattle.ground.proofs.Guards.{past, not-was, and-was}
 use Rattle.ground.proofs.Built.{length-build, drop-build}
 use Rattle.refusals.specs.declared.Refusal.{Refusal}
-use Rattle.versions.specs.Version.{known, carries, limit}
+use Rattle.versions.specs.Version.{carries, limit}
 use Rattle.versions.proofs.Versions.{few, called}
 use Rattle.stations.specs.Image.{stationAt, stations, version, count, verdict, scan, numbers, headed, judged, Headed}
 use Rattle.stations.specs.Encode.{versionOf}
@@ -27,7 +27,6 @@ Marked s = (getD s 0 0 ≡ 70) × (getD s 1 0 ≡ 77) × (getD s 2 0 ≡ 83)
 
 pub record Whole (s : List ℕ) (n : ℕ) : Type 0 where
   pub mark : Marked s
-  pub versioned : known (version s) ≡ true
   pub ranged : carries (version s) n ≡ true
   pub blank : getD s 5 0 ≡ 0
   pub counted : count s ≡ n
@@ -42,7 +41,7 @@ module _ {s : List ℕ} {n : ℕ} (w : Whole s n) where
   -- the version is the one that the stations call for
   pub version-called : version s ≡ versionOf (stations s)
   unfolding versionOf
-  version-called = rw length-stations (called (version s) n (w .versioned) (w .ranged))
+  version-called = rw length-stations (called (version s) n (w .ranged))
 
   -- the next record, and those after it
   pub next : (i : ℕ) → i < n → drop i (stations s) ≡ stationAt s i ∷ drop (i + 1) (stations s)
@@ -90,7 +89,6 @@ whole-numbers s m e =
     let r : carries (version s) (count s) ≡ true = not-was _ (c .0) in
     record {
       mark = m;
-      versioned = not-was _ (a .0);
       ranged = r;
       blank = eqb-true (getD s 5 0) 0 (not-was _ (b .0));
       counted = refl;

@@ -11,7 +11,7 @@ use Rattle.ground.specs.Guard.{given}
 use Rattle.ground.specs.Lists.{build}
 use Rattle.wire.specs.Be.{be}
 use Rattle.distance.specs.Distance.{latitudeOk, longitudeOk}
-use Rattle.refusals.specs.Faults.{Fault, refusal, UnderEightBytes, MarkDiffers, VersionUnknown, SixthByteSet, CountOver, LengthWrong, IdNotAscending, ChannelOutside, ClassOver, FlagsOver, LatitudeOutside, LongitudeOutside}
+use Rattle.refusals.specs.Faults.{Fault, refusal, UnderEightBytes, MarkDiffers, VersionUnknown, SixthByteSet, CountOutside, LengthWrong, IdNotAscending, ChannelOutside, ClassOver, FlagsOver, LatitudeOutside, LongitudeOutside}
 use Rattle.versions.specs.Version.{known, carries, top}
 use Rattle.stations.specs.declared.Station.{Station}
 use Rattle.stations.specs.declared.Judged.{Judged}
@@ -68,7 +68,7 @@ unfoldable pub numbers : List ℕ → Verdict
 numbers s =
     given (not (known (version s))) (faulty VersionUnknown)
     (given (not (eqb (getD s 5 0) 0)) (faulty SixthByteSet)
-    (given (not (carries (version s) (count s))) (faulty CountOver)
+    (given (not (carries (version s) (count s))) (faulty CountOutside)
     (given (not (eqb (length s) (8 + 16 * count s))) (faulty LengthWrong)
     Sound)))
 

@@ -49,7 +49,7 @@ fn numbers(table: &[u8]) -> Verdict
         return wrong(refusals::SIXTH_BYTE_SET);
     }
     if !is_carried(version, n) {
-        return wrong(refusals::COUNT_OVER);
+        return wrong(refusals::COUNT_OUTSIDE);
     }
     if table.len() != HEADER + RECORD * n {
         return wrong(refusals::LENGTH_WRONG);

@@ -7,21 +7,24 @@ use cases::REASON;
 use cases::SEED;
 use cases::WITHDRAW;
 use cases::mixed;
-ghost use Prim.Native.Nat.{_≤_, _<_};
+ghost use Prim.Native.Nat.{_+_, _≤_, _<_};
 
 // The counts, of 26 numbers (0 where it is granted) for each of eight questions; behind them those of the reasons, clear and by
-// column; and behind these the digest.
-pub type Notes = [u64; 214];
+// column; behind these those of the granted images, by version; and last the digest.
+pub type Notes = [u64; 218];
 
 // Where the counts of the reasons start.
 pub(crate) const WAYS: usize = 208;
 
+// Where the counts of the granted images start.
+pub(crate) const IMAGES: usize = 213;
+
 // Where the digest stands.
-const DIGEST: usize = 213;
+const DIGEST: usize = 217;
 
 // Notes before the first question.
 pub fn fresh_notes() -> Notes {
-    let mut notes = [0u64; 214];
+    let mut notes = [0u64; 218];
     notes[DIGEST] = SEED;
     notes
 }
@@ -52,7 +55,7 @@ fn place(kind: u32, number: u64) -> usize
 
 // Adds one to the count at a place.
 pub(crate) fn count_one(notes: &mut Notes, at: usize)
-    requires { ⌜ at < 214 ⌝ }
+    requires { ⌜ at < 218 ⌝ }
 {
     notes[at] = std::num::wrapping_add_u64(notes[at], 1);
 }
@@ -137,18 +140,33 @@ fn print_line(notes: &Notes, number: u64) -> u64
     missing
 }
 
-// Writes the counts of the reasons, and gives how many of these ways never came.
+// Writes the counts from a place up to another, and gives how many of them are 0.
+fn print_part(notes: &Notes, from: usize, to: usize) -> u64
+    requires { ⌜ (from ≤ to) × (to ≤ 218) ⌝ }
+    ensures { λ r. ⌜ r + from ≤ to ⌝ }
+{
+    let mut missing: u64 = 0;
+    let mut at = from;
+    while at < to {
+        missing += print_one(notes[at]);
+        at += 1;
+    }
+    io::write_all(1, b"\n");
+    missing
+}
+
+// Writes the counts of the reasons and of the granted images, and gives how many of these ways never came.
 fn print_ways(notes: &Notes) -> u64
-    ensures { λ r. ⌜ r ≤ 5 ⌝ }
+    ensures { λ r. ⌜ r ≤ 9 ⌝ }
 {
     io::write_all(1, b"reason: clear, and blocked by column:");
-    let clear = print_one(notes[WAYS]);
-    let zero = print_one(notes[WAYS + 1]);
-    let one = print_one(notes[WAYS + 2]);
-    let two = print_one(notes[WAYS + 3]);
-    let three = print_one(notes[WAYS + 4]);
-    io::write_all(1, b"\n");
-    clear + zero + one + two + three
+    let reasons = print_part(notes, WAYS, IMAGES);
+    io::write_all(
+        1,
+        b"granted image: version 1 from 1, 2 from 1, 1 from 2, 2 from 2:",
+    );
+    let images = print_part(notes, IMAGES, DIGEST);
+    reasons + images
 }
 
 // Writes the counts number by number, and gives how many of the possible answers never came.

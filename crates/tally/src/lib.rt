@@ -1,4 +1,5 @@
 // The answers of `fm_cases` compared, counted by question and number and mixed into a digest, and the first difference shown.
+mod changed;
 mod counts;
 mod likeness;
 mod room;
@@ -6,6 +7,7 @@ mod rows;
 mod shown;
 mod told;
 
+pub use changed::note_image;
 pub use counts::Notes;
 pub use counts::fresh_notes;
 pub use counts::note;
@@ -13,6 +15,8 @@ pub use counts::print_counts;
 pub use likeness::alike_bytes;
 pub use likeness::alike_rows;
 pub use likeness::same;
+pub use room::PLENTY;
+pub use room::fill;
 pub use room::least;
 pub use room::needed;
 pub use room::room_for;

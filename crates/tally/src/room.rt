@@ -4,6 +4,9 @@ use super::counts::number_of;
 use cases::below;
 ghost use Prim.Native.Nat.{_≤_, _<_};
 
+// Places that are plenty more than needed.
+pub const PLENTY: usize = 300;
+
 // The places that an answer to a question with one place of room calls for; 64 where it is refused for another reason.
 pub fn needed(answer: u64) -> usize
     ensures { λ r. ⌜ r < 4294967296 ⌝ }
@@ -27,8 +30,17 @@ pub fn room_for(state: &mut u64, need: usize) -> usize
             need - 1
         }
         3 => need + below(state, 40) as usize,
-        4 => need + 300,
-        _ => below(state, 1 + (need % 20_000) as u32) as usize,
+        4 => need + PLENTY,
+        _ => below(state, 1 + (need % 65_536) as u32) as usize,
+    }
+}
+
+// Fills a buffer.
+pub fn fill(bytes: &mut [u8], filling: u8) {
+    let mut i: usize = 0;
+    while i < bytes.len() {
+        bytes[i] = filling;
+        i += 1;
     }
 }
 

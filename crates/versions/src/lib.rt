@@ -1,23 +1,32 @@
-// The versions of the image, and the lists that each carries.
+// The versions of the image, and how many records each carries.
 ghost use mathlib.Core.Path.{_≡_};
 ghost use lib.Dec.{leb};
 ghost use Rattle.versions.specs.Version.{known, carries, top, limit, versionFor};
 
-// No list is longer.
-pub const LIMIT: usize = 2000;
+// The line between the versions.
+const LINE: usize = 2000;
 
-// The paper has this version.
+// No list is longer.
+pub const LIMIT: usize = 4000;
+
+// The papers have this version.
 pub fn is_known(version: u16) -> bool
     ensures { λ r. ⌜ r ≡ known version ⌝ }
 {
-    version == 1
+    version == 1 || version == 2
 }
 
 // It carries so many records.
 pub fn is_carried(version: u16, n: usize) -> bool
     ensures { λ r. ⌜ r ≡ carries version n ⌝ }
 {
-    n <= LIMIT
+    if version == 1 {
+        return n <= LINE;
+    }
+    if version == 2 {
+        return LINE < n && n <= LIMIT;
+    }
+    false
 }
 
 // The highest flags of its records.
@@ -38,5 +47,5 @@ pub fn is_full(n: usize) -> bool
 pub fn version_for(n: usize) -> u16
     ensures { λ r. ⌜ r ≡ versionFor n ⌝ }
 {
-    1
+    if n <= LINE { 1 } else { 2 }
 }

@@ -5,10 +5,10 @@ use Rattle.fm_cases.proofs.made_cases.Statement.{statement}
 use Rattle.fm_cases.proofs.made_cases.Tie as tie
 
 abbrev Inv-loop : tie.InvT-loop
-Inv-loop notes₀ table₀ state₀ k₀ notes table state k = Unit {0}
+Inv-loop notes₀ table₀ mine₀ other₀ state₀ k₀ notes table mine other state k = Unit {0}
 
 abbrev μ-loop : tie.MeasureT-loop
-μ-loop notes₀ table₀ state₀ k₀ notes table state k = 11 - k
+μ-loop notes₀ table₀ mine₀ other₀ state₀ k₀ notes table mine other state k = 21 - k
 
 loop-holds : tie.Need-loop-holds Inv-loop μ-loop
 loop-holds c = search needs

@@ -21,8 +21,8 @@ size c = without-size (c .before .before .before .pre) (c .count-of .ensures)
 count-of-requires : tie.Need-count-of-requires
 count-of-requires c κs = omega (arith, whole _ _ (c .before .before .pre .accepted) .long)
 
-sub-m : tie.Need-sub-m
-sub-m c = omega (arith, plan c .back, c .count-of .ensures)
+sub-left : tie.Need-sub-left
+sub-left c = omega (arith, plan c .back, c .count-of .ensures)
 
 sub-need : tie.Need-sub-need
 sub-need c = let s = c .before .before .before in omega (arith, whole _ _ (s .pre .accepted) .long, s .pre .within)
@@ -65,7 +65,7 @@ grant-withdraw-spec =
     tie.close
     (tie.spec
     count-of-requires
-    sub-m
+    sub-left
     sub-need
     cast-told
     refused-with-requires

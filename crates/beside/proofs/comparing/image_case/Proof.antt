@@ -20,26 +20,35 @@ room-for-requires c κs = search needs
 least-requires : tie.Need-least-requires
 least-requires c κs = search needs
 
+least-requires-2 : tie.Need-least-requires-2
+least-requires-2 c κs = search needs
+
 below-requires : tie.Need-below-requires
 below-requires c κs = search needs
 
 cast-filling : tie.Need-cast-filling
 cast-filling c = search needs
 
-array-borrow-prefix-mine : tie.Need-array-borrow-prefix-mine
-array-borrow-prefix-mine c = search needs
+slice-relend-prefix-compare-image : tie.Need-slice-relend-prefix-compare-image
+slice-relend-prefix-compare-image c = search needs
 
 slice-aggregate-compare-image : tie.Need-slice-aggregate-compare-image
 slice-aggregate-compare-image c = simp length-take (omega arith)
 
-array-borrow-prefix-other : tie.Need-array-borrow-prefix-other
-array-borrow-prefix-other c = search needs
+slice-relend-prefix-compare-image-2 : tie.Need-slice-relend-prefix-compare-image-2
+slice-relend-prefix-compare-image-2 c = search needs
 
 slice-aggregate-compare-image-2 : tie.Need-slice-aggregate-compare-image-2
 slice-aggregate-compare-image-2 c = simp length-take (omega arith)
 
 compare-image-requires : tie.Need-compare-image-requires
 compare-image-requires c κs = search needs
+
+same-length : tie.Need-same-length
+same-length c = search needs
+
+same-length-2 : tie.Need-same-length-2
+same-length-2 c = search needs
 
 returns : tie.Need-returns
 returns c = search needs
@@ -53,11 +62,14 @@ image-case-spec =
     needed-requires
     room-for-requires
     least-requires
+    least-requires-2
     below-requires
     cast-filling
-    array-borrow-prefix-mine
+    slice-relend-prefix-compare-image
     slice-aggregate-compare-image
-    array-borrow-prefix-other
+    slice-relend-prefix-compare-image-2
     slice-aggregate-compare-image-2
     compare-image-requires
+    same-length
+    same-length-2
     returns)

@@ -8,14 +8,8 @@ use Rattle.fm_cases.proofs.made.one_case.Tie as tie
 kind-of-requires : tie.Need-kind-of-requires
 kind-of-requires c κs = search needs
 
-add-below : tie.Need-add-below
-add-below c = search needs
-
-below-requires : tie.Need-below-requires
-below-requires c κs = search needs
-
-add-n : tie.Need-add-n
-add-n c = search needs
+records-of-requires : tie.Need-records-of-requires
+records-of-requires c κs = search needs
 
 first-id-requires : tie.Need-first-id-requires
 first-id-requires c κs = search needs
@@ -41,6 +35,12 @@ compare-requires c κs = search needs
 same-length : tie.Need-same-length
 same-length c = search needs
 
+same-length-2 : tie.Need-same-length-2
+same-length-2 c = search needs
+
+same-length-3 : tie.Need-same-length-3
+same-length-3 c = search needs
+
 returns : tie.Need-returns
 returns c = search needs
 
@@ -49,9 +49,7 @@ one-case-spec =
     tie.close
     (tie.spec
     kind-of-requires
-    add-below
-    below-requires
-    add-n
+    records-of-requires
     first-id-requires
     made-question-requires
     case-table-requires
@@ -60,4 +58,6 @@ one-case-spec =
     slice-aggregate-compare
     compare-requires
     same-length
+    same-length-2
+    same-length-3
     returns)

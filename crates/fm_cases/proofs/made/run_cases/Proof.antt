@@ -4,10 +4,10 @@ use Rattle.fm_cases.proofs.made.run_cases.Statement.{statement}
 use Rattle.fm_cases.proofs.made.run_cases.Tie as tie
 
 abbrev Inv-loop : tie.InvT-loop
-Inv-loop run state₀ table₀ notes₀ left₀ state table notes left = Unit {0}
+Inv-loop run state₀ table₀ mine₀ other₀ notes₀ left₀ state table mine other notes left = Unit {0}
 
 abbrev μ-loop : tie.MeasureT-loop
-μ-loop run state₀ table₀ notes₀ left₀ state table notes left = left
+μ-loop run state₀ table₀ mine₀ other₀ notes₀ left₀ state table mine other notes left = left
 
 loop-holds : tie.Need-loop-holds Inv-loop μ-loop
 loop-holds c = search needs

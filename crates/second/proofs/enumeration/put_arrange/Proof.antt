@@ -1,13 +1,14 @@
--- `second::enumeration::put_arrange` meets its contract. The invariant: at most 480,003 numbers for each channel passed. Assumes nothing.
+-- `second::enumeration::put_arrange` meets its contract. The invariant: at most 240 numbers for each station and channel passed. Assumes nothing.
 use Prim.Native.Nat.{_+_, _-_, _*_, _≤_}
 use mathlib.Core.Path.{_≡_}
 use lib.ListN.{length}
 use borrow.Author.Needs.{needs}
+use Rattle.second.specs.Sizes.{capacity}
 use Rattle.second.proofs.enumeration.put_arrange.Statement.{statement}
 use Rattle.second.proofs.enumeration.put_arrange.Tie as tie
 
 abbrev Inv-loop : tie.InvT-loop
-Inv-loop table n first last new rows₀ at₀ channel₀ rows at channel = (221 ≤ channel) × (channel ≤ 301) × (at + 480003 * 221 ≤ 480003 * channel) × (length rows ≡ length rows₀)
+Inv-loop table n first last new rows₀ at₀ channel₀ rows at channel = (221 ≤ channel) × (channel ≤ 301) × (at + 240 * capacity * 221 ≤ 240 * capacity * channel) × (length rows ≡ length rows₀)
 
 abbrev μ-loop : tie.MeasureT-loop
 μ-loop table n first last new rows₀ at₀ channel₀ rows at channel = 301 - channel
