@@ -37,4 +37,8 @@ done <<'DAY'
 ./fm add tomorrow.fms twice.fms 3001 236 C3 II 41-45-12N 046-20-30W || echo "status $?"
 ./fm check tomorrow.fms 236 B II 41-45-12N 046-20-30W || echo "status $?"
 ./fm show tomorrow.fms | sed -n '1p;$p'
+printf 'FMS\000\001\000\000\000' >nobody.fms
+./fm add nobody.fms strait.fms 7 250 A II 51-52-00N 179-59-51W
+./fm distance 51-52-00N 179-59-59E 51-52-00N 179-59-51W
+./fm why strait.fms 250 A II 51-52-00N 179-59-59E
 DAY

@@ -20,7 +20,8 @@
      the places after it stay as they were;
    - no question keeps anything between calls, so several may run at once, each with a buffer of its own.
 
-   Coordinates are seconds of arc, north and east positive. Record positions and the bytes of a table count from 0. */
+   Coordinates are seconds of arc, north and east positive. Longitudes differ by the short way round: 647,990 and -647,990
+   by 20 seconds, and 648,000 and -648,000 are one meridian. Record positions and the bytes of a table count from 0. */
 
 #ifndef FMS_H
 #define FMS_H

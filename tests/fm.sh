@@ -175,7 +175,7 @@ fm distance: how many km two sites are apart
   ./fm distance LAT LON LAT LON
   Example: ./fm distance 41-45-12N 046-20-30W 41-30-00N 046-00-00W
 
-By the method of 47 CFR 73.208, in whole km, as in the lines of check.
+By the method of 47 CFR 73.208, in whole km, as in the lines of check; over the 180th meridian the short way round.
 
   LAT LON  degrees, minutes and seconds, as 40-44-54N 073-59-09W, or seconds of arc, as 146694 -266349
   --raw    anywhere among the words: the proved program's own lines instead of sentences (not for show)
@@ -533,6 +533,27 @@ hold "show: 4,000 stations" [ "$("$fm" show full.fms | sed -n '1p;$p;$=')" = '40
     3999        4000      201  A      not movable  00-00-32N 000-01-02E
 4002' ]
 
+# ---- over the 180th meridian: the short way round
+try 0 add empty.fms strait.fms 7 250 A II 51-52-00N 179-59-51W <<'SAYS'
+Station 7 is entered on channel 250, class A. strait.fms has 1 station.
+SAYS
+try 0 check strait.fms 250 A II 51-52-00N 179-59-59E <<'SAYS'
+Channel 250 is not acceptable for class A in zone II at 51-52-00N 179-59-59E:
+1 station is short.
+  station 7 on 250 (class A)  is   0 km away and should be 115 km: short by 115 km
+SAYS
+try 0 why strait.fms 251 A II 51-52-00N 179-30-00E <<'SAYS'
+Channel 251 is blocked for class A in zone II at 51-52-00N 179-30-00E.
+The largest shortfall is to station 7, channel 250, class A, at 51-52-00N 179-59-51W.
+It stands 35 km away, and 47 CFR 73.207 asks for 72 km between two stations of class A
+on channels one apart (200 kHz): short by 37 km.
+SAYS
+hold "arrange: a station over the 180th meridian" [ "$("$fm" arrange strait.fms A II 51-52-00N 179-59-59E | sed -n 2p)" = '73 are free, 7 open by one move, 0 are shut.' ]
+try 1 add strait.fms new.fms 9 250 A II 51-52-00N 180-00-00E <<'SAYS'
+fm: refused with number 20: on channel 250 it would be short to station 7 (channel 250, class A), record 0 of strait.fms counted from 0, and perhaps to later ones. ./fm check lists all that are short, ./fm arrange the channels that fit.
+SAYS
+rm -f strait.fms
+
 # ---- distance
 try 0 distance 0 0 0 3600 <<'SAYS'
 00-00-00N 000-00-00E and 00-00-00N 001-00-00E are 111 km apart by 47 CFR 73.208.
@@ -543,9 +564,13 @@ SAYS
 try 0 distance 75-00-00S 180-00-00E -270000 +648000 <<'SAYS'
 75-00-00S 180-00-00E and 75-00-00S 180-00-00E are 0 km apart by 47 CFR 73.208.
 SAYS
-# The last of 114 km and the first of 115; the last short of 290 km; at 75 degrees; the last of 475 km.
+try 0 distance 51-52-00N 179-59-50E 51-52-00N 179-59-10W <<'SAYS'
+51-52-00N 179-59-50E and 51-52-00N 179-59-10W are 1 km apart by 47 CFR 73.208.
+SAYS
+# The last of 114 km and the first of 115; the last short of 290 km; at 75 degrees; the last of 475 km; and over the 180th meridian.
 for words in '114 0 0 0 3702' '115 0 0 0 3703' '289 4712 0 -4712 0' '290 4713 0 -4713 0' '462 75-00-00N 0 75-00-00N 016-00-00E' \
-    '29 75-00-00S 180-00-00W 75-00-00S 179-00-00W' '475 0 0 0 15377' '475 15481 0 0 0'; do
+    '29 75-00-00S 180-00-00W 75-00-00S 179-00-00W' '475 0 0 0 15377' '475 15481 0 0 0' \
+    '1 0 647990 0 -647990' '0 0 180-00-00W 0 180-00-00E' '114 0 646149 0 -646149' '115 0 646148 0 -646149' '475 0 640000 0 -640623'; do
     # shellcheck disable=SC2086
     set -- $words
     km=$1
@@ -557,7 +582,7 @@ SAYS
 $km
 SAYS
 done
-for words in '0 0 0 15378' '0 0 15482 0' '0 180-00-00W 0 180-00-00E'; do
+for words in '0 0 0 15378' '0 0 15482 0' '0 640000 0 -640622' '0 180-00-00W 0 0' '0 090-00-00W 0 090-00-00E'; do
     # shellcheck disable=SC2086
     try 1 distance $words <<'SAYS'
 fm: refused with number 24: the sites are more than 475 km apart, where the distance method of 73.208 does not hold.

@@ -44,7 +44,16 @@ const REGION: Area = Area {
     lon: (-100 * 3_600, -70 * 3_600),
 };
 
-/// A rectangle of latitudes and longitudes, both ends inside.
+/// A longitude that runs over one end of the range, as the one that it comes to from the other end.
+pub fn wrapped(lon: i64) -> i64 {
+    match lon {
+        648_001.. => lon - 1_296_000,
+        ..=-648_001 => lon + 1_296_000,
+        _ => lon,
+    }
+}
+
+/// A rectangle of latitudes and longitudes, both ends inside; its longitudes may run over an end of the range.
 #[derive(Clone, Copy, Debug)]
 pub struct Area {
     pub lat: (i64, i64),
@@ -52,19 +61,19 @@ pub struct Area {
 }
 
 impl Area {
-    /// The rectangle of so many seconds around a site, cut at the ends of the ranges.
+    /// The rectangle of so many seconds around a site, cut at the ends of the latitudes.
     pub fn around(lat: i64, lon: i64, seconds: i64) -> Area {
-        let cut = |x: i64, end: i64| x.clamp(-end, end);
+        let cut = |lat: i64| lat.clamp(-270_000, 270_000);
         Area {
-            lat: (cut(lat - seconds, 270_000), cut(lat + seconds, 270_000)),
-            lon: (cut(lon - seconds, 648_000), cut(lon + seconds, 648_000)),
+            lat: (cut(lat - seconds), cut(lat + seconds)),
+            lon: (lon - seconds, lon + seconds),
         }
     }
 
     fn site(&self, chance: &mut Chance) -> (i32, i32) {
         let lat = chance.from(self.lat.0, self.lat.1);
         let lon = chance.from(self.lon.0, self.lon.1);
-        (lat as i32, lon as i32)
+        (lat as i32, wrapped(lon) as i32)
     }
 }
 
@@ -134,6 +143,8 @@ pub enum Manner {
     Limits,
     /// So far inside of these that they are short to a class A proposal on `LEVEL` by the same in whole km, and some by one more.
     Level,
+    /// On both sides of the 180th meridian and on it, at any latitude.
+    Meridian,
 }
 
 /// The channel of a proposal to which level stations are short.
@@ -143,7 +154,7 @@ pub const LEVEL: u32 = 260;
 pub const DIFFERENCES: [(usize, u32); 6] = [(0, 0), (1, 1), (2, 2), (2, 3), (3, 53), (3, 54)];
 
 /// Every manner.
-pub const MANNERS: [Manner; 7] = [
+pub const MANNERS: [Manner; 8] = [
     Manner::Region,
     Manner::Cluster,
     Manner::Lone,
@@ -151,6 +162,7 @@ pub const MANNERS: [Manner; 7] = [
     Manner::Low,
     Manner::Limits,
     Manner::Level,
+    Manner::Meridian,
 ];
 
 /// Stations, and a place from which to ask about them.
@@ -227,6 +239,7 @@ pub fn scene_of(chance: &mut Chance, manner: Manner, count: usize) -> Scene {
         }
         Manner::Limits => {
             let lat = if chance.once_in(3) { 0 } else { lat };
+            let lon = at_times_near_the_meridian(chance, lon);
             let area = Area::around(lat, lon, 0);
             let mut stations = spread(chance, count, area, 245, 255);
             for station in &mut stations {
@@ -239,6 +252,7 @@ pub fn scene_of(chance: &mut Chance, manner: Manner, count: usize) -> Scene {
             Scene { stations, area }
         }
         Manner::Level => {
+            let lon = at_times_near_the_meridian(chance, lon);
             let area = Area::around(lat, lon, 0);
             let mut stations = spread(chance, count, area, 201, 300);
             let shortfall = chance.one_of(&[1, 5, 9, 20, 31, 60]);
@@ -256,20 +270,48 @@ pub fn scene_of(chance: &mut Chance, manner: Manner, count: usize) -> Scene {
             }
             Scene { stations, area }
         }
+        Manner::Meridian => {
+            let lat = chance.one_of(&[-270_000, 0, 270_000, lat, lat, lat]);
+            let lon = near_the_meridian(chance);
+            let area = Area::around(lat, lon, chance.one_of(&[1, 60, 1_500, 4_000, 20_000]));
+            let mut stations = spread(chance, count, area, 201, 300);
+            for station in &mut stations {
+                if chance.once_in(8) {
+                    station.lon = chance.one_of(&[-648_000, 648_000]);
+                }
+            }
+            Scene { stations, area }
+        }
+    }
+}
+
+/// A longitude on the 180th meridian, or some seconds or some thousands from it.
+pub fn near_the_meridian(chance: &mut Chance) -> i64 {
+    let seconds = chance.one_of(&[0, 1, 100, 5_000]);
+    wrapped(chance.one_of(&[-648_000, 648_000]) + chance.from(-seconds, seconds))
+}
+
+/// Such a longitude in one case of three, else a given one.
+fn at_times_near_the_meridian(chance: &mut Chance, lon: i64) -> i64 {
+    if chance.once_in(3) {
+        near_the_meridian(chance)
+    } else {
+        lon
     }
 }
 
 /// Sets a station so many decimetres, and some seconds more, off its site: north or south or, more often, east or west.
 fn set_off(chance: &mut Chance, station: &mut Station, decimetres: i64, more: i64) {
     let (p, q) = degrees(i128::from(station.lat.unsigned_abs()) * 2);
-    let (site, degree, end) = if chance.once_in(3) {
-        (&mut station.lat, p, 270_000)
-    } else {
-        (&mut station.lon, q, 648_000)
-    };
+    let north = chance.once_in(3);
+    let degree = if north { p } else { q };
     let seconds = decimetres * 3_600_000 / degree as i64 + more;
-    let seconds = if chance.once_in(2) { seconds } else { -seconds } as i32;
-    *site = (*site + seconds).clamp(-end, end);
+    let seconds = if chance.once_in(2) { seconds } else { -seconds };
+    if north {
+        station.lat = (station.lat + seconds as i32).clamp(-270_000, 270_000);
+    } else {
+        station.lon = wrapped(i64::from(station.lon) + seconds) as i32;
+    }
 }
 
 /// The column of a channel difference that has one.

@@ -117,12 +117,22 @@ pub fn degrees(h: i128) -> (i128, i128) {
     (p, q)
 }
 
+/// The difference of two longitudes; one over 648,000 is replaced by 1,296,000 less it.
+fn longitude_difference(lon1: i128, lon2: i128) -> i128 {
+    let plain = (lon1 - lon2).abs();
+    if plain > 648_000 {
+        1_296_000 - plain
+    } else {
+        plain
+    }
+}
+
 /// S, in square decimetres.
 pub fn squared(lat1: i32, lon1: i32, lat2: i32, lon2: i32) -> i128 {
     let [lat1, lon1, lat2, lon2] = [lat1, lon1, lat2, lon2].map(i128::from);
     let (p, q) = degrees((lat1 + lat2).abs());
     let ns = (lat1 - lat2).abs() * p / 3_600_000;
-    let ew = (lon1 - lon2).abs() * q / 3_600_000;
+    let ew = longitude_difference(lon1, lon2) * q / 3_600_000;
     ns * ns + ew * ew
 }
 

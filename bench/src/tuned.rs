@@ -1,6 +1,6 @@
 //! The eight questions tuned by hand for few instructions, in safe Rust. Far records are passed over by one subtraction and one
-//! comparison: by their latitude alone, or, with `BOX`, by a box of latitudes and longitudes around the site. Records are judged
-//! and passed over one a turn, and with `BOX` four.
+//! comparison: by their latitude alone, or, with `BOX`, by a box of latitudes and longitudes around the site, also where it lies
+//! across the 180th meridian. Records are judged and passed over one a turn, and with `BOX` four.
 
 use crate::question::{Answer, Lent, Proposal, Question};
 
@@ -324,6 +324,20 @@ fn angle(half_seconds: u64) -> u64 {
     half_seconds * 2_424_068_405_548 / E
 }
 
+/// The whole circle, in seconds.
+const CIRCLE: u32 = 1_296_000;
+
+/// The eastern end of the longitudes, and the way by bits from it up to the western end.
+const END: i32 = 648_000;
+const BETWEEN: u32 = CIRCLE.wrapping_neg();
+
+/// The difference of two longitudes, the short way round.
+#[inline(always)]
+fn across(lon1: i32, lon2: i32) -> u32 {
+    let plain = lon1.abs_diff(lon2);
+    plain.min(CIRCLE - plain)
+}
+
 /// S of two sites in range, in square decimetres.
 #[inline(always)]
 fn squared(lat1: i32, lon1: i32, lat2: i32, lon2: i32) -> u64 {
@@ -343,7 +357,7 @@ fn squared(lat1: i32, lon1: i32, lat2: i32, lon2: i32) -> u64 {
     let p = 1_111_320_900 - scaled(5_660_500, c2) + scaled(12_000, c4);
     let q = (1_114_151_300 * c1 / E) as i64 - scaled(945_500, c3) + scaled(1_200, c5);
     let ns = u64::from((lat1 - lat2).unsigned_abs()) * p as u64 / 3_600_000;
-    let ew = u64::from((lon1 - lon2).unsigned_abs()) * q as u64 / 3_600_000;
+    let ew = u64::from(across(lon1, lon2)) * q as u64 / 3_600_000;
     ns * ns + ew * ew
 }
 
@@ -423,6 +437,42 @@ impl Place {
     }
 }
 
+/// Coordinates by their bits: `low`, and those up to `size` above it, the highest bits followed by 0.
+#[derive(Clone, Copy)]
+struct Span {
+    low: i32,
+    size: u32,
+}
+
+impl Span {
+    /// The numbers up to `far` from one.
+    fn around(z: i32, far: u32) -> Span {
+        Span {
+            low: z - far as i32,
+            size: 2 * far,
+        }
+    }
+
+    /// The longitudes up to `far` from one, the short way round: where they come to one end they go on at the other, and none lies
+    /// between.
+    fn longitudes(lon: i32, far: u32) -> Span {
+        let mut span = Span::around(lon, far);
+        if lon + far as i32 >= END {
+            span.size += BETWEEN;
+        } else if span.low <= -END {
+            span.low += CIRCLE as i32;
+            span.size += BETWEEN;
+        }
+        span
+    }
+
+    /// Whether a coordinate is none of these.
+    #[inline(always)]
+    fn misses(&self, z: i32) -> bool {
+        z.wrapping_sub(self.low) as u32 > self.size
+    }
+}
+
 /// A place from which records are looked at.
 struct Lookout<const BOX: bool> {
     limits: &'static Limits,
@@ -430,31 +480,24 @@ struct Lookout<const BOX: bool> {
     lon: i32,
     /// A length that no degree of longitude falls below between here and a record that is not far.
     scale: u64,
-    /// The seconds of longitude that alone are enough, for each class.
-    east: [u32; 8],
-    /// The box outside of which nobody is short: its southern and western edge, its height and width.
-    south: i32,
-    west: i32,
-    height: u32,
-    width: u32,
+    /// The latitudes outside of which nobody is short.
+    lats: Span,
+    /// The longitudes outside of which nobody of a class is short.
+    lons: [Span; 8],
 }
 
 impl<const BOX: bool> Lookout<BOX> {
     fn new(Place { class, lat, lon }: Place) -> Self {
         let limits = &LIMITS[class];
         let scale = least_scale(lat);
-        let east = limits.map(|limit| (decimetres(limit[0].km) * 3_600_000 / scale + 1) as u32);
-        let (up, across) = (limits[7][0].apart - 1, east[7] - 1);
+        let east = |km| (decimetres(km) * 3_600_000 / scale) as u32;
         Lookout {
             limits,
             lat,
             lon,
             scale,
-            east,
-            south: lat - up as i32,
-            west: lon - across as i32,
-            height: 2 * up,
-            width: 2 * across,
+            lats: Span::around(lat, limits[7][0].apart - 1),
+            lons: limits.map(|limit| Span::longitudes(lon, east(limit[0].km))),
         }
     }
 
@@ -462,10 +505,10 @@ impl<const BOX: bool> Lookout<BOX> {
     /// reaches farthest, then by those of its own.
     #[inline(always)]
     fn spaced(&self, record: &Record, column: usize) -> bool {
-        lat(record).wrapping_sub(self.south) as u32 > self.height
-            || BOX && lon(record).wrapping_sub(self.west) as u32 > self.width
+        self.lats.misses(lat(record))
+            || BOX && self.lons[7].misses(lon(record))
             || self.lat.abs_diff(lat(record)) >= self.limits[class(record)][column].apart
-            || self.lon.abs_diff(lon(record)) >= self.east[class(record)]
+            || self.lons[class(record)].misses(lon(record))
     }
 
     /// The limits of a record's class, and S.
@@ -483,7 +526,7 @@ impl<const BOX: bool> Lookout<BOX> {
         let least = decimetres(km);
         let enough = least * 3_600_000;
         if u64::from(self.lat.abs_diff(lat(record))) * LEAST_P >= enough
-            || u64::from(self.lon.abs_diff(lon(record))) * self.scale >= enough
+            || u64::from(across(self.lon, lon(record))) * self.scale >= enough
         {
             return None;
         }

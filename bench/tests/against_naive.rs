@@ -2,12 +2,12 @@
 
 mod common;
 
-use common::{agree, agree_in, class_a, dense, LIMIT, LINE, ROWS};
+use common::{agree, agree_in, class_a, dense, zone_for, LIMIT, LINE, ROWS};
 use fms_bench::made::{
-    column_of, damaged, proposal_in, region, region_proposals, scene, scene_of, Area, Chance,
-    Manner, Scene, DAMAGES, DIFFERENCES, LEVEL, MANNERS,
+    column_of, damaged, near_the_meridian, proposal_in, region, region_proposals, scene, scene_of,
+    wrapped, Area, Chance, Manner, Scene, DAMAGES, DIFFERENCES, LEVEL, MANNERS,
 };
-use fms_bench::naive::{image_in, image_of, Station};
+use fms_bench::naive::{degrees, image_in, image_of, km, rounded, squared, Station};
 use fms_bench::question::{Answer, Proposal, Question};
 
 /// A proposal near the stations; in one case of eight a wrong one.
@@ -591,17 +591,17 @@ fn one_channel_at_a_time() {
     }
 }
 
-/// A desk's year: each granted image is the next table, and goes on to be accepted.
+/// A desk's year, also across the 180th meridian: each granted image is the next table, and goes on to be accepted.
 #[test]
 fn changes_in_a_row() {
     let mut chance = Chance::new(16);
-    for _ in 0..40 {
+    for turn in 0..40 {
         let mut table = image_of(&[]);
-        let area = Area::around(
-            chance.from(-250_000, 250_000),
-            chance.from(-600_000, 600_000),
-            9_000,
-        );
+        let lon = match turn % 2 {
+            0 => chance.from(-600_000, 600_000),
+            _ => near_the_meridian(&mut chance),
+        };
+        let area = Area::around(chance.from(-250_000, 250_000), lon, 9_000);
         for _ in 0..200 {
             let id = chance.from(1, 60) as u32;
             let channel = chance.from(221, 300) as u32;
@@ -636,7 +636,11 @@ fn distances() {
         let lon1 = chance.from(-648_000, 648_000) as i32;
         let reach = chance.one_of(&[1, 100, 4_000, 16_000, 60_000]);
         let lat2 = (lat1 + chance.from(-reach, reach) as i32).clamp(-270_001, 270_001);
-        let lon2 = (lon1 + chance.from(-reach, reach) as i32).clamp(-648_001, 648_001);
+        let lon2 = i64::from(lon1) + chance.from(-reach, reach);
+        let lon2 = match chance.once_in(2) {
+            true => wrapped(lon2) as i32,
+            false => lon2.clamp(-648_001, 648_001) as i32,
+        };
         let question = Question::Distance {
             lat1,
             lon1,
@@ -652,6 +656,238 @@ fn distances() {
                 lon2: lon1,
             };
             assert_eq!(agree_in(&back, &[], 0, 0).answer, answer);
+        }
+    }
+}
+
+/// Holds two movable stations, D apart, to each other: the distance of their sites, Check, the reason, Arrange and Add for either
+/// in a table of the other, and the Move of either to its own channel in a table of both. Says whether they are short.
+fn held_to_each_other(a: Station, b: Station, d: u32) -> bool {
+    let difference = a.channel.abs_diff(b.channel);
+    let r = km(a.class, b.class, column_of(difference));
+    let distance = match d {
+        0..=475 => Answer::Granted(d),
+        _ => Answer::Refused {
+            number: 24,
+            extra: 0,
+        },
+    };
+    let changed = |position| match d < r {
+        true => Answer::Refused {
+            number: 20,
+            extra: position,
+        },
+        false => Answer::Granted(40),
+    };
+    let both = image_of(&[a, b]);
+    for (new, old, other) in [(a, b, 1), (b, a, 0)] {
+        let Station {
+            id, channel, class, ..
+        } = new;
+        let proposal = Proposal {
+            station_class: class,
+            zone: zone_for(class),
+            lat: new.lat,
+            lon: new.lon,
+        };
+        let table = image_of(&[old]);
+        let hold = |question: Question, table: &[u8]| agree_in(&question, table, 40, 3 * 79);
+        let asked = Question::Distance {
+            lat1: new.lat,
+            lon1: new.lon,
+            lat2: old.lat,
+            lon2: old.lon,
+        };
+        assert_eq!(hold(asked, &[]).answer, distance);
+        let rows = checked(&table, channel, proposal, 0);
+        assert_eq!(rows.first(), (d < r).then_some(&[old.id, d, r]));
+        let arrange = Question::Arrange {
+            first: channel,
+            last: channel,
+            proposal,
+            aside: 0,
+        };
+        let free = hold(arrange, &table).list() == [channel, 0, 0];
+        assert_eq!(free, d >= r);
+        let add = Question::Add {
+            id,
+            channel,
+            proposal,
+        };
+        assert_eq!(hold(add, &table).answer, changed(0));
+        let stay = Question::Move { id, channel };
+        assert_eq!(hold(stay, &both).answer, changed(other));
+    }
+    d < r
+}
+
+/// A difference of longitude at which two sites are about so many decimetres apart, 0 where their latitudes alone put them so far.
+fn seconds_apart(lat1: i32, lat2: i32, decimetres: i64) -> i64 {
+    let (p, q) = degrees(i128::from((lat1 + lat2).unsigned_abs()));
+    let north = i64::from(lat1.abs_diff(lat2)) * p as i64 / 3_600_000;
+    let east = (decimetres * decimetres - north * north).max(0).isqrt();
+    east * 3_600_000 / q as i64
+}
+
+/// Pairs on both sides of the 180th meridian, or on it, at all latitudes: some seconds apart, half a km, a separation, and 475 km.
+/// Each is held as it is where the same difference of longitude begins at 0.
+#[test]
+fn pairs_across_the_meridian() {
+    let mut chance = Chance::new(24);
+    let (pairs, mut across, mut short) = (50_000, 0, 0);
+    for _ in 0..pairs {
+        let lat1 = match chance.once_in(8) {
+            true => chance.one_of(&[-270_000, 0, 270_000]),
+            false => chance.from(-270_000, 270_000) as i32,
+        };
+        let reach = chance.one_of(&[0, 3, 1_000, 9_000]);
+        let lat2 = (lat1 + chance.from(-reach, reach) as i32).clamp(-270_000, 270_000);
+        let (column, difference) = chance.one_of(&DIFFERENCES);
+        let [first, second] = [0; 2].map(|_| chance.from(0, 7) as u32);
+        let decimetres = match chance.from(0, 7) {
+            0 => 0,
+            1 => 5_000,
+            2 => 4_755_000,
+            _ => 10_000 * i64::from(km(first, second, column)) - 5_000,
+        };
+        let apart = seconds_apart(lat1, lat2, decimetres) + chance.from(-2, 2);
+        let apart = apart.max(0);
+        let west = 648_000 - chance.from(0, apart);
+        // The meridian itself has two numbers.
+        let mut numbered = |lon: i64| match wrapped(lon) {
+            648_000 | -648_000 => chance.one_of(&[-648_000, 648_000]),
+            lon => lon as i32,
+        };
+        let station = |id, channel, class, lat, lon| Station {
+            id,
+            channel,
+            class,
+            flags: 0,
+            lat,
+            lon,
+        };
+        let one = station(7, 240, first, lat1, numbered(west));
+        let other = station(8, 240 + difference, second, lat2, numbered(west + apart));
+        let d = rounded(squared(lat1, 0, lat2, apart as i32));
+        across += usize::from(one.lon.abs_diff(other.lon) > 648_000);
+        short += usize::from(held_to_each_other(one, other, d));
+    }
+    println!("{pairs} pairs, {across} with more than 648,000 between their numbers, {short} short");
+    assert!(across > pairs / 2 && (pairs / 4..pairs * 3 / 4).contains(&short));
+}
+
+/// A longitude so many seconds farther east, round the globe; one that is out of range as it is.
+fn turned(lon: i32, by: i64) -> i32 {
+    match lon {
+        -648_000..=648_000 => wrapped(i64::from(lon) + by) as i32,
+        _ => lon,
+    }
+}
+
+/// A table with its stations so much farther east.
+fn turned_table(table: &[u8], by: i64) -> Vec<u8> {
+    let mut table = table.to_vec();
+    let (records, _) = table[8..].as_chunks_mut::<16>();
+    for [.., a, b, c, d] in records {
+        [*a, *b, *c, *d] = turned(i32::from_be_bytes([*a, *b, *c, *d]), by).to_be_bytes();
+    }
+    table
+}
+
+/// A question with its sites so much farther east.
+fn turned_question(mut question: Question, by: i64) -> Question {
+    match &mut question {
+        Question::Read | Question::Withdraw { .. } | Question::Move { .. } => {}
+        Question::Distance { lon1, lon2, .. } => {
+            *lon1 = turned(*lon1, by);
+            *lon2 = turned(*lon2, by);
+        }
+        Question::Add { proposal, .. }
+        | Question::Check { proposal, .. }
+        | Question::Arrange { proposal, .. }
+        | Question::Reason { proposal, .. } => proposal.lon = turned(proposal.lon, by),
+    }
+    question
+}
+
+/// Holds the answer to a question, and what is written, to what they are with all so much farther east; hands back the answer.
+fn held_farther_east(question: Question, table: &[u8], by: i64) -> Answer {
+    let found = agree_in(&question, table, table.len() + 16, ROWS);
+    let east = turned_table(table, by);
+    let expected = agree_in(
+        &turned_question(question, by),
+        &east,
+        table.len() + 16,
+        ROWS,
+    );
+    assert_eq!(found.answer, expected.answer, "{question:?} and {by} east");
+    if let Answer::Refused { .. } = found.answer {
+        return found.answer;
+    }
+    match question {
+        Question::Read | Question::Distance { .. } => {}
+        Question::Check { .. } | Question::Arrange { .. } => {
+            assert_eq!(found.list(), expected.list(), "{question:?} and {by} east")
+        }
+        Question::Reason { .. } => assert_eq!(found.reason(), expected.reason()),
+        Question::Add { .. } | Question::Withdraw { .. } | Question::Move { .. } => {
+            assert_eq!(turned_table(found.image(), by), expected.image())
+        }
+    }
+    found.answer
+}
+
+/// S goes by differences of longitude alone: scenes across the 180th meridian get the answers that they get on the other side of
+/// the globe, and scenes from anywhere those that they get across the meridian.
+#[test]
+fn farther_east() {
+    let mut chance = Chance::new(25);
+    let (mut asked, mut short, mut reasons) = (0, 0, 0);
+    for turn in 0..4_000 {
+        let manner = MANNERS[turn % MANNERS.len()];
+        let most = chance.one_of(&[2, 5, 12, 30]);
+        let scene = scene(&mut chance, manner, most);
+        let (west, east) = scene.area.lon;
+        let by = match manner {
+            Manner::Meridian => 648_000,
+            _ => wrapped(near_the_meridian(&mut chance) - (west + east) / 2),
+        };
+        let table = scene.table();
+        for question in questions(&mut chance, &scene) {
+            asked += 1;
+            match (question, held_farther_east(question, &table, by)) {
+                (_, Answer::Refused { number: 20, .. }) => short += 1,
+                (Question::Reason { .. }, Answer::Granted(1..)) => reasons += 1,
+                _ => {}
+            }
+        }
+    }
+    println!("{asked} questions, {short} refused with 20, {reasons} reasons");
+    assert!(short > asked / 100 && reasons > asked / 100);
+}
+
+/// Regions of 2,000 and of 4,000 stations with the site on the 180th meridian or near it: Check and the reason on every channel,
+/// and Arrange, are what they are where the region lies.
+#[test]
+fn full_regions_across_the_meridian() {
+    let mut chance = Chance::new(26);
+    for (count, sites) in [(LINE, 4), (LIMIT, 2)] {
+        let table = region(1, count);
+        for proposal in region_proposals(2, sites) {
+            let by = wrapped(near_the_meridian(&mut chance) - i64::from(proposal.lon));
+            let studies = (221..=300).flat_map(|channel| {
+                let [check, reason] = [Question::check, Question::reason];
+                [check, reason].map(|study| study(channel, proposal, 0))
+            });
+            let arrange = Question::Arrange {
+                first: 221,
+                last: 300,
+                proposal,
+                aside: 0,
+            };
+            for question in studies.chain([arrange]) {
+                held_farther_east(question, &table, by);
+            }
         }
     }
 }

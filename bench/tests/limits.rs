@@ -3,7 +3,7 @@
 mod common;
 
 use common::{agree_in, table_of_one, zone_for};
-use fms_bench::made::{column_of, DIFFERENCES};
+use fms_bench::made::{column_of, wrapped, DIFFERENCES};
 use fms_bench::naive::{cosines, degrees, km, rounded, squared};
 use fms_bench::question::{Answer, Proposal, Question};
 use std::collections::BTreeMap;
@@ -60,6 +60,26 @@ impl Sites {
             lat1: -self.lat1,
             lat2: -self.lat2,
             ..*self
+        }
+    }
+
+    /// The same sites on the other side of the globe, across the 180th meridian.
+    fn across(&self) -> Sites {
+        let turned = |lon: i32| wrapped(i64::from(lon) + 648_000) as i32;
+        Sites {
+            lon1: turned(self.lon1),
+            lon2: turned(self.lon2),
+            ..*self
+        }
+    }
+
+    /// The same sites in the other order.
+    fn back(&self) -> Sites {
+        Sites {
+            lat1: self.lat2,
+            lon1: self.lon2,
+            lat2: self.lat1,
+            lon2: self.lon1,
         }
     }
 
@@ -145,7 +165,7 @@ fn crossing_east(h: i64, dlat: i64, r: u32) -> Option<i64> {
     if far(0)? {
         return None;
     }
-    let (mut near, mut apart) = (0, 1_296_000);
+    let (mut near, mut apart) = (0, 648_000);
     while apart - near > 1 {
         let middle = (near + apart) / 2;
         if far(middle)? {
@@ -171,7 +191,8 @@ fn crossing_north(h: i64, r: u32) -> Option<i64> {
     Some(2 * apart + h % 2)
 }
 
-/// Every pair of classes and every difference, east and north, on both sides of the line, at many latitudes.
+/// Every pair of classes and every difference, east and north, on both sides of the line, at many latitudes, around longitude 0 and
+/// across the 180th meridian.
 #[test]
 fn every_pair_of_classes() {
     let mut lines = 0;
@@ -187,8 +208,10 @@ fn every_pair_of_classes() {
                         if let Some(dlon) = crossing_east(h, dlat, r) {
                             for (dlon, short) in [(dlon - 1, true), (dlon, false)] {
                                 let sites = Sites::at(h, dlat, dlon).expect("both in range");
-                                assert_eq!(sites.held(a, b, difference), short);
-                                assert_eq!(sites.south().held(a, b, difference), short);
+                                let across = sites.across();
+                                for sites in [sites, sites.south(), across, across.back()] {
+                                    assert_eq!(sites.held(a, b, difference), short);
+                                }
                                 lines += 1;
                             }
                         }
@@ -197,6 +220,7 @@ fn every_pair_of_classes() {
                         for (dlat, short) in [(dlat - 2, true), (dlat, false)] {
                             let sites = Sites::at(h, dlat, 0).expect("both in range");
                             assert_eq!(sites.held(a, b, difference), short);
+                            assert_eq!(sites.across().held(a, b, difference), short);
                             lines += 1;
                         }
                     }
@@ -224,6 +248,7 @@ fn exactly_at_the_limit() {
             let (_, difference) = DIFFERENCES[[0, 1, 2, 4][column]];
             assert_eq!(sites.kilometres(), r);
             assert!(!sites.held(a, b, difference));
+            assert!(!sites.across().held(a, b, difference));
             met += 1;
         }
     }
@@ -348,7 +373,7 @@ fn shows(
     None
 }
 
-/// The line of the distance question: 475 is answered, 476 is refused with 24, at many latitudes.
+/// The line of the distance question: 475 is answered, 476 is refused with 24, at many latitudes and across the 180th meridian.
 #[test]
 fn the_line_of_475() {
     for h in (0..=HIGHEST).step_by(3_001) {
@@ -370,7 +395,7 @@ fn the_line_of_475() {
                 lon2,
             } in Sites::at(h, h % 2, dlon)
                 .iter()
-                .flat_map(|s| [*s, s.south()])
+                .flat_map(|s| [*s, s.south(), s.across()])
             {
                 let question = Question::Distance {
                     lat1,

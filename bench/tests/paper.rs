@@ -3,7 +3,7 @@
 mod common;
 
 use common::{agree, class_a, dense, table_of_one, LIMIT, LINE};
-use fms_bench::naive::{image_of, short, squared, Station};
+use fms_bench::naive::{degrees, image_of, short, squared, Station};
 use fms_bench::question::{Answer, Proposal, Question};
 
 const A: u32 = 0;
@@ -370,5 +370,102 @@ fn four_thousand_stations() {
             let with = changed(&table, added, count + 1, position + 1, 0, &new);
             assert_eq!(told.image(), with);
         }
+    }
+}
+
+/// The answer of the distance question, the same from either site.
+fn distance(first: (i32, i32), second: (i32, i32)) -> Answer {
+    let [there, back] = [(first, second), (second, first)].map(|(one, other)| {
+        let question = Question::Distance {
+            lat1: one.0,
+            lon1: one.1,
+            lat2: other.0,
+            lon2: other.1,
+        };
+        agree(&question, &[]).answer
+    });
+    assert_eq!(there, back);
+    there
+}
+
+/// a longitude difference over 648,000 is replaced by 1,296,000 less it. Longitudes 647,990 and -647,990 differ by 20 seconds;
+/// 648,000 and -648,000 by none; half the circle stays what it is, and is too far.
+#[test]
+fn the_short_way_round() {
+    let (_, q) = degrees(0);
+    for (lon1, lon2, seconds) in [
+        (647_990, -647_990, 20),
+        (648_000, -648_000, 0),
+        (648_000, -647_999, 1),
+        (0, 648_000, 648_000),
+        (0, -648_000, 648_000),
+        (-324_000, 324_000, 648_000),
+        (-324_000, 324_001, 647_999),
+        (-324_000, 323_999, 647_999),
+        (-200_000, 200_000, 400_000),
+        (-500_000, 500_000, 296_000),
+    ] {
+        let ew = seconds * q / 3_600_000;
+        assert_eq!(squared(0, lon1, 0, lon2), ew * ew);
+        assert_eq!(squared(0, lon2, 0, lon1), ew * ew);
+    }
+    let too_far = Answer::Refused {
+        number: 24,
+        extra: 0,
+    };
+    for lat in [-270_000, -186_720, -1, 0, 1, 186_720, 270_000] {
+        let [east, west] = [(lat, 647_990), (lat, -647_990)];
+        assert_eq!(distance(east, west), distance((lat, 0), (lat, 20)));
+        let one_meridian = distance((lat, 648_000), (lat, -648_000));
+        assert_eq!(one_meridian, Answer::Granted(0));
+        for lon in [-648_000, 648_000] {
+            assert_eq!(distance((lat, 0), (lat, lon)), too_far);
+        }
+    }
+    // P12 and P1 to P8 with the meridian between the two sites, or as one end of the way.
+    for east in [0, 1, 1_800, 3_599, 3_600] {
+        let [first, second] = [(0, 648_000 - east), (0, 3_600 - 648_000 - east)];
+        assert_eq!(distance(first, second), Answer::Granted(111));
+    }
+    for (difference, seconds) in [(0, 3_702), (2, 986), (53, 307)] {
+        let east = |seconds| (0, seconds - 648_100);
+        assert!(is_short(A, difference, (0, 647_900), east(seconds)));
+        assert!(!is_short(A, difference, (0, 647_900), east(seconds + 1)));
+    }
+    assert!(is_short(C, 0, (4_712, 648_000), (-4_712, -648_000)));
+    assert!(!is_short(C, 0, (4_713, 648_000), (-4_713, -648_000)));
+}
+
+/// a station at 51-52-00 N, 179-59-51 W, and a class A proposal ten seconds of longitude west of it, at 179-59-59 E; and the
+/// other way about.
+#[test]
+fn the_far_aleutians() {
+    let (lat, west, east) = (186_720, -647_991, 647_999);
+    for (there, here) in [(west, east), (east, west)] {
+        let table = table_of_one(250, A, lat, there);
+        let proposal = class_a(lat, here);
+        let check = agree(&Question::check(250, proposal, 0), &table);
+        assert_eq!(check.list(), [7, 0, 115]);
+        let reason = agree(&Question::reason(250, proposal, 0), &table);
+        assert_eq!(reason.reason(), Some((8, [7, 0, 115, 0])));
+        let add = Question::Add {
+            id: 9,
+            channel: 250,
+            proposal,
+        };
+        let short = Answer::Refused {
+            number: 20,
+            extra: 0,
+        };
+        assert_eq!(agree(&add, &table).answer, short);
+        let arrange = Question::Arrange {
+            first: 250,
+            last: 250,
+            proposal,
+            aside: 0,
+        };
+        let rows = agree(&arrange, &table);
+        assert_eq!(rows.list().len(), 3 * 73);
+        assert_eq!(rows.list()[..3], [250, 7, 221]);
     }
 }

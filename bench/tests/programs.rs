@@ -433,6 +433,39 @@ fn a_reason_for_a_sheet() {
     }
 }
 
+/// A station ten seconds of longitude from the site, across the 180th meridian; and made scenes across it.
+#[test]
+fn across_the_meridian() {
+    if !programs_run() {
+        return;
+    }
+    let asked = asked(250, &class_a(186_720, 647_999));
+    let table = table_of_one(250, 0, 186_720, -647_991);
+    let [nobody, new] = [0, 9].map(u32::to_be_bytes);
+    for (program, head, told) in [
+        ("fm_check", &[&asked[..]][..], "short 1\n7 0 115\n"),
+        ("fm_reason", &[&asked, &nobody], "7 0 115 0\n"),
+        ("fm_study", &[b"c", &nobody, &asked], "short 1\n7 0 115\n"),
+        ("fm_change", &[b"a", &new, &asked], "refused 20 0\n"),
+    ] {
+        let input = [&head.concat()[..], &table].concat();
+        assert_eq!(held(program, &input, "the example"), told.as_bytes());
+    }
+    let distance = [b"d", &asked[4..], &table[16..]].concat();
+    assert_eq!(held("fm_study", &distance, "the example"), b"0\n");
+    let mut chance = Chance::new(24);
+    for program in PROGRAMS {
+        for turn in 0..16 {
+            let scene = scene(&mut chance, Manner::Meridian, 12);
+            let mut input = Vec::new();
+            if put_question(&mut chance, program, &scene, &mut input) {
+                input.extend(scene.table());
+            }
+            held(program, &input, &format!("scene {turn}"));
+        }
+    }
+}
+
 /// What stands before a table in an input of each program, one for each letter that it knows: about 250 at (0, 0), where all dense
 /// stations are short, and with their first id; the Add far from them, with an id behind theirs.
 fn heads() -> [(&'static str, Vec<u8>); 8] {

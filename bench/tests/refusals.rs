@@ -761,6 +761,45 @@ fn refusal_20_by_a_low_station() {
     }
 }
 
+/// Across the 180th meridian too, by 3,702 seconds of the equator and not by 3,703: Add, and Move to the own channel.
+#[test]
+fn refusal_20_across_the_meridian() {
+    for (lon, short, spaced) in [
+        (647_000, -645_298, -645_297),
+        (-647_000, 645_298, 645_297),
+        (648_000, -644_298, -644_297),
+        (-648_000, 644_298, 644_297),
+    ] {
+        let there = Station { lon, ..STATION };
+        let far = Station {
+            id: 3,
+            lat: 100_000,
+            ..there
+        };
+        let table = image_of(&[far, there]);
+        let add = |lon| Question::Add {
+            id: 9,
+            channel: 250,
+            proposal: class_a(0, lon),
+        };
+        refused(&add(short), &table, 20, 1);
+        granted(&add(spaced), &table, bytes_of(3));
+        let stay = |lon| {
+            let other = Station {
+                id: 9,
+                lon,
+                ..STATION
+            };
+            image_of(&[far, there, other])
+        };
+        for (id, other) in [(7, 2), (9, 1)] {
+            let to_its_own = Question::Move { id, channel: 250 };
+            refused(&to_its_own, &stay(short), 20, other);
+            granted(&to_its_own, &stay(spaced), bytes_of(3));
+        }
+    }
+}
+
 #[test]
 fn refusal_20_of_move() {
     // Position 1 is the one that moves; it is short to position 2 on 254, to position 0 on 240, to nobody on 290.
@@ -1090,19 +1129,29 @@ fn refusal_24() {
         )
     };
     far(0, 0, 0, 648_000);
-    far(0, -648_000, 0, 648_000);
+    far(0, 0, 0, -648_000);
+    far(0, -324_000, 0, 324_000);
+    far(0, -324_000, 0, 324_001);
     far(270_000, -648_000, -270_000, 648_000);
     far(-270_000, 0, 270_000, 0);
-    // Along the equator 15,377 seconds are the last that round to 475 km.
-    let near = Question::Distance {
-        lat1: 0,
-        lon1: 0,
-        lat2: 0,
-        lon2: 15_377,
-    };
-    assert_eq!(agree_in(&near, &[], 0, 0).answer, Answer::Granted(475));
-    far(0, 0, 0, 15_378);
-    far(0, 15_378, 0, 0);
+    // Along the equator 15,377 seconds are the last that round to 475 km, also across the 180th meridian.
+    for (lon1, lon2, farther) in [
+        (0, 15_377, 15_378),
+        (647_000, -633_623, -633_622),
+        (648_000, -632_623, -632_622),
+        (-648_000, 632_623, 632_622),
+        (-648_000, -632_623, -632_622),
+    ] {
+        let near = Question::Distance {
+            lat1: 0,
+            lon1,
+            lat2: 0,
+            lon2,
+        };
+        assert_eq!(agree_in(&near, &[], 0, 0).answer, Answer::Granted(475));
+        far(0, lon1, 0, farther);
+        far(0, farther, 0, lon1);
+    }
 }
 
 /// Not movable: fixed, or at or below 220; before short and before the room, even on its own channel.

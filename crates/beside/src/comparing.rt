@@ -23,6 +23,7 @@ use tally::least;
 use tally::needed;
 use tally::note;
 use tally::note_image;
+use tally::note_meridian;
 use tally::note_reason;
 use tally::room_for;
 use tally::same;
@@ -145,6 +146,7 @@ pub fn compare(
     other: &mut [u8],
     notes: &mut Notes,
 ) -> bool {
+    note_meridian(notes, q, table);
     if q.kind <= DISTANCE {
         return compare_number(q, table, notes);
     }

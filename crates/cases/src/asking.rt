@@ -5,7 +5,9 @@ use super::limits::at_limit;
 use super::question::ADD;
 use super::question::MOVE;
 use super::question::Question;
+use super::tables::ASTRIDE;
 use super::tables::any_site;
+use super::tables::site_astride;
 use super::words::Site;
 ghost use Prim.Native.Nat.{_≤_, _<_};
 ghost use Rattle.cases.specs.Sizes.{mostRecords};
@@ -111,22 +113,25 @@ fn other_site(state: &mut u64) -> Site {
     }
 }
 
-// A site, out of range once in so many times.
-fn asked_site(state: &mut u64, odds: u32) -> Site
+// A site for a style of table, out of range once in so many times.
+fn asked_site(state: &mut u64, style: u32, odds: u32) -> Site
     requires { ⌜ 0 < odds ⌝ }
 {
     if once_in(state, odds) {
         return other_site(state);
     }
+    if style == ASTRIDE {
+        return site_astride(state);
+    }
     any_site(state)
 }
 
-// A second site: at a limit from the first, or any.
-fn other_end(state: &mut u64, from: Site, odds: u32) -> Site
+// A second site: at a limit from the first, or made as the first.
+fn other_end(state: &mut u64, from: Site, style: u32, odds: u32) -> Site
     requires { ⌜ 0 < odds ⌝ }
 {
     if once_in(state, 4) {
-        return asked_site(state, odds);
+        return asked_site(state, style, odds);
     }
     let r = below(state, 480);
     at_limit(state, from, r)
@@ -199,14 +204,14 @@ fn odds_of(state: &mut u64) -> u32
     if once_in(state, 12) { 2 } else { 40 }
 }
 
-// A question of a kind about a table of n records whose ids start at a number.
-pub fn made_question(state: &mut u64, kind: u32, start: u32, n: u32) -> Question
+// A question of a kind about a table of a style, of n records whose ids start at a number.
+pub fn made_question(state: &mut u64, kind: u32, style: u32, start: u32, n: u32) -> Question
     requires { ⌜ n ≤ mostRecords ⌝ }
 {
     let odds = odds_of(state);
     let zone = 1 + below(state, 3);
-    let from = asked_site(state, odds);
-    let to = other_end(state, from, odds);
+    let from = asked_site(state, style, odds);
+    let to = other_end(state, from, style, odds);
     let channel = asked_channel(state, odds);
     Question {
         kind,

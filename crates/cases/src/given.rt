@@ -1,10 +1,11 @@
-// Cases with their answers: an id left aside in check, arrange and reason; of reason each column, equals and refusals; and of read
-// the versions and their counts.
+// Cases with their answers: an id left aside in check, arrange and reason; of reason each column, equals and refusals; of read the
+// versions and their counts; and across the 180th meridian.
 use super::headers::header_of;
 use super::image::Record;
 use super::image::put_any_header;
 use super::image::put_header;
 use super::image::put_record;
+use super::meridian::across_case;
 use super::paper::paper_channel;
 use super::paper::paper_class;
 use super::paper::paper_column;
@@ -19,7 +20,7 @@ use super::words::Site;
 ghost use Prim.Native.Nat.{_≤_};
 ghost use Rattle.cases.specs.Sizes.{mostRecords};
 
-// A question; its answer with all the room for rows, and with one place; and the four numbers behind a reason.
+// A question; its answer with all the room for rows, and with one place; and the first four numbers behind it.
 pub struct Given {
     pub question: Question,
     pub answer: u64,
@@ -28,7 +29,7 @@ pub struct Given {
 }
 
 // How many there are.
-pub const GIVEN: u32 = 49;
+pub const GIVEN: u32 = 64;
 
 // The bytes of their longest table.
 pub const GIVEN_BYTES: usize = 72;
@@ -63,7 +64,8 @@ fn put_equals(table: &mut [u8], class: u32) {
     put_on_equator(table, 3, 9, 250, class, 4_294_965_496);
 }
 
-// Writes the table of a case, and gives its length: one station of the paper's, four, four of which the last has no class, or none.
+// Writes the table of a case, and gives its length: one station of the paper's, four, four of which the last has no class, one nine
+// seconds east of the 180th meridian or one second west of it, or none.
 pub fn put_given_table(table: &mut [u8], k: u32) -> usize {
     match k {
         0..=11 => {
@@ -85,6 +87,12 @@ pub fn put_given_table(table: &mut [u8], k: u32) -> usize {
         32..=34 => {
             put_equals(table, 8);
             72
+        }
+        49..=63 => {
+            let lon = if k < 62 { 4_294_319_305 } else { 647_999 };
+            put_header(table, 1);
+            put_on_equator(table, 0, 7, 260, 0, lon);
+            24
         }
         _ => {
             let header = header_of(k);
@@ -111,7 +119,7 @@ fn asked(kind: u32, channel: u32, class: u32, lon: u32, aside: u32) -> Question 
 }
 
 // Class A is answered alike with any room, and nothing is told: no row or clear, 0, or a refusal.
-fn silent(kind: u32, channel: u32, lon: u32, aside: u32, answer: u64) -> Given {
+pub(crate) fn silent(kind: u32, channel: u32, lon: u32, aside: u32, answer: u64) -> Given {
     Given {
         question: asked(kind, channel, 0, lon, aside),
         answer,
@@ -120,20 +128,34 @@ fn silent(kind: u32, channel: u32, lon: u32, aside: u32, answer: u64) -> Given {
     }
 }
 
-// Class A at the crossing of equator and meridian is answered with the numbers of some rows.
-fn counted(kind: u32, channel: u32, aside: u32, count: u64) -> Given
+// Class A is answered with the count of the numbers in rows.
+pub(crate) fn listed(
+    kind: u32,
+    channel: u32,
+    lon: u32,
+    aside: u32,
+    count: u64,
+    told: [u32; 4],
+) -> Given
     requires { ⌜ count ≤ 10000 ⌝ }
 {
     Given {
-        question: asked(kind, channel, 0, 0, aside),
+        question: asked(kind, channel, 0, lon, aside),
         answer: count,
         narrow: 22 * REFUSED + count,
-        told: [UNTOLD; 4],
+        told,
     }
 }
 
 // A reason is answered with the place of a station, and tells its four numbers.
-fn named(channel: u32, class: u32, lon: u32, aside: u32, place: u64, told: [u32; 4]) -> Given {
+pub(crate) fn named(
+    channel: u32,
+    class: u32,
+    lon: u32,
+    aside: u32,
+    place: u64,
+    told: [u32; 4],
+) -> Given {
     Given {
         question: asked(REASON, channel, class, lon, aside),
         answer: place,
@@ -143,7 +165,8 @@ fn named(channel: u32, class: u32, lon: u32, aside: u32, place: u64, told: [u32;
 }
 
 // The cases in a row: twelve of reason by the paper's separations, and six beside its one station; four each of check and arrange
-// with an id left aside; six of reason beside four stations; one of each where the station left aside is faulty; and the headers.
+// with an id left aside; six of reason beside four stations; one of each where the station left aside is faulty; the headers; and
+// those across the 180th meridian.
 pub fn given_case(k: u32) -> Given {
     match k {
         12 => named(250, 0, 3_702, 0, 8, [7, 114, 115, 0]),
@@ -152,12 +175,12 @@ pub fn given_case(k: u32) -> Given {
         15 => silent(REASON, 250, 3_702, 8, 23 * REFUSED),
         16 => silent(REASON, 250, 648_001, 8, 17 * REFUSED),
         17 => silent(REASON, 220, 648_001, 8, 13 * REFUSED),
-        18 => counted(CHECK, 260, 0, 3),
+        18 => listed(CHECK, 260, 0, 0, 3, [7, 0, 115, UNTOLD]),
         19 => silent(CHECK, 260, 0, 7, 0),
         20 => silent(CHECK, 260, 0, 8, 23 * REFUSED),
         21 => silent(CHECK, 260, 648_001, 8, 17 * REFUSED),
-        22 => counted(ARRANGE, 221, 0, 1_752),
-        23 => counted(ARRANGE, 221, 7, 240),
+        22 => listed(ARRANGE, 221, 0, 0, 1_752, [221, 0, 0, 222]),
+        23 => listed(ARRANGE, 221, 0, 7, 240, [221, 0, 0, 222]),
         24 => silent(ARRANGE, 221, 0, 8, 23 * REFUSED),
         25 => silent(ARRANGE, 221, 648_001, 8, 17 * REFUSED),
         26 => named(250, 0, 0, 0, 24, [5, 13, 72, 1]),
@@ -170,6 +193,7 @@ pub fn given_case(k: u32) -> Given {
         33 => silent(ARRANGE, 221, 0, 9, 9 * REFUSED + 3),
         34 => silent(REASON, 220, 0, 9, 9 * REFUSED + 3),
         35..=48 => silent(READ, 0, 0, 0, header_of(k).answer),
+        49..=63 => across_case(k),
         _ => {
             let told = [7, 0, paper_separation(k), paper_column(k)];
             named(paper_channel(k), paper_class(k), 0, 0, 8, told)

@@ -6,6 +6,7 @@ mod given;
 mod headers;
 mod image;
 mod limits;
+mod meridian;
 mod paper;
 mod question;
 mod runs;

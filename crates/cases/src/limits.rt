@@ -5,6 +5,7 @@ use super::words::LATITUDES;
 use super::words::LONGITUDES;
 use super::words::Site;
 use super::words::east;
+use super::words::eastward;
 use super::words::north;
 use super::words::site_at;
 ghost use Prim.Native.Nat.{_≤_};
@@ -47,42 +48,37 @@ fn edge(north1: u32, north2: u32, r: u32) -> u32
     low
 }
 
-// A number that differs from another by a step, up where that stays within most, else down.
-fn stepped(from: u32, step: u32, most: u32) -> u32
-    requires { ⌜ from ≤ 2000000 ⌝ }
-    requires { ⌜ step ≤ 2000000 ⌝ }
-{
-    if from + step <= most {
-        return from + step;
-    }
-    if step <= from {
-        return from - step;
-    }
-    from
-}
-
-// A latitude so near to another that a distance of r km still lies within reach.
+// A latitude so near to another that a distance of r km still lies within reach: north of it, or south where that passes the end.
 fn near_north(state: &mut u64, from: u32, r: u32) -> u32
     requires { ⌜ from ≤ 540000 ⌝ }
+    ensures { λ n. ⌜ n ≤ 540000 ⌝ }
 {
     if once_in(state, 2) {
         return from;
     }
     let step = below(state, 33 * (r % 1_000) + 1);
-    stepped(from, step, LATITUDES)
+    if from + step <= LATITUDES {
+        return from + step;
+    }
+    from - step
 }
 
-// One less, but not below 0.
-fn one_less(n: u32) -> u32
-    ensures { λ r. ⌜ r ≤ n ⌝ }
+// A longitude so many seconds east or west of another.
+pub(crate) fn either_way(state: &mut u64, from: u32, seconds: u32) -> u32
+    requires { ⌜ (from ≤ 1296000) × (seconds ≤ 1296000) ⌝ }
+    ensures { λ r. ⌜ r ≤ 1296000 ⌝ }
 {
-    if n == 0 { 0 } else { n - 1 }
+    if once_in(state, 2) {
+        return eastward(from, seconds);
+    }
+    eastward(from, LONGITUDES - seconds)
 }
 
 // A site at the limit of r km from another, or one second of longitude on either side of it.
 pub(crate) fn at_limit(state: &mut u64, from: Site, r: u32) -> Site {
     let north1 = north(from);
-    let north2 = near_north(state, north1, r) % (LATITUDES + 1);
-    let step = one_less(edge(north1, north2, r) + below(state, 3));
-    site_at(north2, stepped(east(from), step, LONGITUDES))
+    let north2 = near_north(state, north1, r);
+    let limit = either_way(state, east(from), edge(north1, north2, r));
+    let before = eastward(limit, LONGITUDES - 1);
+    site_at(north2, eastward(before, below(state, 3)))
 }

@@ -14,6 +14,7 @@ use super::question::WITHDRAW;
 use super::sizes::LIMIT;
 use super::sizes::LINE;
 use super::sizes::MOST;
+use super::tables::ASTRIDE;
 use super::tables::AT_LIMITS;
 use super::tables::CROWDED;
 use super::tables::EQUALS;
@@ -34,7 +35,7 @@ const ALL: u32 = 9;
 const MOVE_OR_WITHDRAW: u32 = 10;
 
 // How many runs there are.
-pub const RUNS: u32 = 21;
+pub const RUNS: u32 = 23;
 
 // A run: how many cases, which question, at least how many records and how many more, their style, damaged or not.
 pub struct Run {
@@ -65,7 +66,7 @@ pub fn run_of(k: u32) -> Run {
     match k {
         // Distances at the limits, at the ends of the ranges, and out of range.
         0 => Run {
-            cases: 30_000,
+            cases: 26_000,
             question: DISTANCE,
             fewest: 0,
             more: 0,
@@ -74,7 +75,7 @@ pub fn run_of(k: u32) -> Run {
         },
         // Small tables at the limits.
         1 => Run {
-            cases: 48_000,
+            cases: 43_000,
             question: ALL_BUT_ARRANGE,
             fewest: 0,
             more: 12,
@@ -92,7 +93,7 @@ pub fn run_of(k: u32) -> Run {
         },
         // Arrangements at the limits.
         3 => Run {
-            cases: 6_000,
+            cases: 5_000,
             question: ARRANGE,
             fewest: 0,
             more: 6,
@@ -129,13 +130,13 @@ pub fn run_of(k: u32) -> Run {
         // Around the line between the versions: all questions, damaged tables, arrangements, and more of the changes.
         7 => around(LINE, 300, ALL_BUT_ARRANGE, SCATTERED, false),
         8 => around(LINE, 200, ALL, SCATTERED, true),
-        9 => around(LINE, 24, ARRANGE, AT_LIMITS, false),
+        9 => around(LINE, 12, ARRANGE, AT_LIMITS, false),
         10 => around(LINE, 200, ADD, LOW, false),
         11 => around(LINE, 300, MOVE_OR_WITHDRAW, SCATTERED, false),
         // The same around the limit, and stations that are all short.
         12 => around(LIMIT, 360, ALL_BUT_ARRANGE, SCATTERED, false),
         13 => around(LIMIT, 200, ALL, SCATTERED, true),
-        14 => around(LIMIT, 40, ARRANGE, AT_LIMITS, false),
+        14 => around(LIMIT, 24, ARRANGE, AT_LIMITS, false),
         15 => around(LIMIT, 240, ADD, LOW, false),
         16 => around(LIMIT, 150, MOVE_OR_WITHDRAW, SCATTERED, false),
         17 => around(LIMIT, 50, CHECK, CROWDED, false),
@@ -158,12 +159,30 @@ pub fn run_of(k: u32) -> Run {
             damage: true,
         },
         // Reasons in large tables.
-        _ => Run {
+        20 => Run {
             cases: 60,
             question: REASON,
             fewest: 100,
             more: LIMIT - 100,
             style: EQUALS,
+            damage: false,
+        },
+        // Distances across the 180th meridian.
+        21 => Run {
+            cases: 5_000,
+            question: DISTANCE,
+            fewest: 0,
+            more: 0,
+            style: ASTRIDE,
+            damage: false,
+        },
+        // All questions across the 180th meridian.
+        _ => Run {
+            cases: 7_000,
+            question: ALL,
+            fewest: 0,
+            more: 8,
+            style: ASTRIDE,
             damage: false,
         },
     }
@@ -226,7 +245,12 @@ pub fn case_table(
     requires { ⌜ n ≤ mostRecords ⌝ }
     ensures { λ r. ⌜ r ≤ room ⌝ }
 {
-    let length = made_table(state, asked_record(q), id, n as usize, run.style, table);
+    let style = if run.style == ASTRIDE {
+        below(state, ASTRIDE)
+    } else {
+        run.style
+    };
+    let length = made_table(state, asked_record(q), id, n as usize, style, table);
     if run.damage {
         return damaged(state, table, n, length);
     }

@@ -6,11 +6,13 @@ use super::image::put_header;
 use super::image::put_record;
 use super::image::start_of;
 use super::limits::at_limit;
+use super::limits::either_way;
 use super::limits::separation;
 use super::words::LATITUDES;
 use super::words::LONGITUDES;
 use super::words::Site;
 use super::words::east;
+use super::words::eastward;
 use super::words::north;
 use super::words::site_at;
 ghost use Prim.Native.Nat.{_≤_, _<_};
@@ -30,6 +32,9 @@ pub(crate) const EQUALS: u32 = 3;
 
 // Records within some km of what is asked, on its channel or up to 3 beside: all are short to it.
 pub(crate) const CROWDED: u32 = 4;
+
+// Records of any of these styles, around a site astride the 180th meridian.
+pub(crate) const ASTRIDE: u32 = 5;
 
 // A reach of some hundred km, in seconds.
 const WIDE: u32 = 20_000;
@@ -51,37 +56,47 @@ fn place_within(state: &mut u64, most: u32) -> u32
     below(state, most + 1)
 }
 
-// A site: the crossing of equator and meridian, an end of a range, or any other.
+// A site: the crossing of equator and meridian, one astride the 180th meridian, an end of a range, or any other.
 pub(crate) fn any_site(state: &mut u64) -> Site {
-    if once_in(state, 4) {
-        return site_at(270_000, 648_000);
+    match below(state, 8) {
+        0 | 1 => site_at(270_000, 648_000),
+        2 => site_astride(state),
+        _ => site_at(
+            place_within(state, LATITUDES),
+            place_within(state, LONGITUDES),
+        ),
     }
-    site_at(
-        place_within(state, LATITUDES),
-        place_within(state, LONGITUDES),
-    )
 }
 
-// A place within a range, at most reach away from another.
-fn place_near(state: &mut u64, from: u32, reach: u32, most: u32) -> u32
-    requires { ⌜ (from ≤ 2000000) × (reach ≤ 100000) ⌝ }
+// A latitude at most reach away from another.
+fn north_near(state: &mut u64, from: u32, reach: u32) -> u32
+    requires { ⌜ (from ≤ 540000) × (reach ≤ 100000) ⌝ }
 {
     let up = from + below(state, 2 * reach + 1);
     if up < reach {
         return 0;
     }
     let near = up - reach;
-    if most < near { most } else { near }
+    if LATITUDES < near { LATITUDES } else { near }
 }
 
-// A site within the ranges, at most a height north or south and a width east or west of another, in seconds.
+// A site at most a height north or south and a width east or west of another, in seconds.
 fn site_near(state: &mut u64, from: Site, height: u32, width: u32) -> Site
     requires { ⌜ (height ≤ 100000) × (width ≤ 100000) ⌝ }
 {
-    site_at(
-        place_near(state, north(from), height, LATITUDES),
-        place_near(state, east(from), width, LONGITUDES),
-    )
+    let seconds = north_near(state, north(from), height);
+    let west = eastward(east(from), LONGITUDES - width);
+    site_at(seconds, eastward(west, below(state, 2 * width + 1)))
+}
+
+// A site at any latitude, at the western end or near the 180th meridian on either side.
+pub(crate) fn site_astride(state: &mut u64) -> Site {
+    let end = site_at(place_within(state, LATITUDES), 0);
+    match below(state, 8) {
+        0 => end,
+        1 | 2 | 3 => site_near(state, end, 0, NARROW),
+        _ => site_near(state, end, 0, 4_000),
+    }
 }
 
 // A channel difference: one with a requirement, or one beside such.
@@ -178,32 +193,33 @@ fn record_near(state: &mut u64, id: u32, channel: u32, from: Record, reach: u32)
     }
 }
 
-// A number, or by chance the one as far on the other side of a middle, where that is within low to high.
-fn either_side(state: &mut u64, middle: u32, number: u32, low: u32, high: u32) -> u32 {
+// A channel, or by chance the one as far on the other side of a middle, where that is within 201 to 300.
+fn either_side(state: &mut u64, middle: u32, channel: u32) -> u32 {
     if once_in(state, 2) {
-        return number;
+        return channel;
     }
     let twice = std::num::wrapping_add_u32(middle, middle);
-    let other = std::num::wrapping_sub_u32(twice, number);
-    if other < low {
-        return number;
+    let other = std::num::wrapping_sub_u32(twice, channel);
+    if other < 201 {
+        return channel;
     }
-    if high < other {
-        return number;
+    if 300 < other {
+        return channel;
     }
     other
 }
 
 // A record as far from what is asked as another one, by channel and by km, and of the same class.
 fn twin_of(state: &mut u64, id: u32, asked: Record, from: Record) -> Record {
-    let channel = either_side(state, asked.channel, from.channel, 201, 300);
-    let seconds = either_side(state, east(asked.site), east(from.site), 0, LONGITUDES);
+    let channel = either_side(state, asked.channel, from.channel);
+    let middle = east(asked.site);
+    let way = eastward(east(from.site), LONGITUDES - middle);
     Record {
         id,
         channel,
         class: from.class,
         flags: any_flags(state),
-        site: site_at(north(from.site), seconds),
+        site: site_at(north(from.site), either_way(state, middle, way)),
     }
 }
 

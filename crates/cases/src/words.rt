@@ -4,7 +4,7 @@ ghost use Prim.Native.Nat.{_≤_};
 // Seconds of latitude from one end of the range to the other.
 pub(crate) const LATITUDES: u32 = 540_000;
 
-// Seconds of longitude from one end of the range to the other.
+// Seconds of longitude from one end of the range to the other: the whole circle.
 pub(crate) const LONGITUDES: u32 = 1_296_000;
 
 // A site in two words.
@@ -18,6 +18,19 @@ pub(crate) fn site_at(north: u32, east: u32) -> Site {
     Site {
         lat: std::num::wrapping_sub_u32(north, 270_000),
         lon: std::num::wrapping_sub_u32(east, 648_000),
+    }
+}
+
+// The longitude so many seconds east of another: past the eastern end it goes on from the western one.
+pub(crate) fn eastward(from: u32, seconds: u32) -> u32
+    requires { ⌜ (from ≤ 1296000) × (seconds ≤ 1296000) ⌝ }
+    ensures { λ r. ⌜ r ≤ 1296000 ⌝ }
+{
+    let on = from + seconds;
+    if on <= LONGITUDES {
+        on
+    } else {
+        on - LONGITUDES
     }
 }
 

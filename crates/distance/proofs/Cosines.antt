@@ -1,7 +1,7 @@
 -- The ranges of the cosines, of P and of Q, up to 75 degrees of mean latitude. Assumes nothing.
 use mathlib.Core.Path.{_≡_, sym, ap, _∙_, subst}
 use Prim.Native.Nat.{ℕ, _+_, _-_, _*_, _/_, _≤_}
-use native.Mathlib.Nat.{le-trans, mul-le-mul}
+use native.Mathlib.Nat.{le-refl, le-trans, mul-le-mul}
 use native.Mathlib.Omega.{arith}
 use lib.IntN.{ℤ, pos, natAbs, _+ℤ_, _-ℤ_, _*ℤ_}
 use Rattle.distance.specs.Distance.{_÷_, E, xOf, c1, c2, c3, c4, c5, P, Q}
@@ -87,11 +87,27 @@ module _ (h : ℕ) (hh : h ≤ 540000) where
   c1-pos = let e = series-is (xOf h) (x-le h hh) in e ∙ ap (λ (z : ℤ). pos (natAbs z)) (sym e)
 
   -- Q is within 2,842,500 of its first term
-  pub Q-near : (m : ℕ) → m ≤ natAbs (c1 h) → 100000000 ≤ m → 1114151300 * m / E - 2842500 ≤ natAbs (Q h)
+  Q-about : 100000000 ≤ natAbs (c1 h) → Near (1114151300 * natAbs (c1 h) / E) 2842500 (Q h)
   unfolding Q
-  Q-near m le some =
+  Q-about some =
       let k = 1114151300 * natAbs (c1 h) / E in
       let n : Near k 2842500 (pos k -ℤ pos 945500 *ℤ c3 h ÷ E +ℤ pos 1200 *ℤ c5 h ÷ E) =
       near-add 6000 (pos 1200 *ℤ c5 h ÷ E) (near-sub 2836500 (pos 945500 *ℤ c3 h ÷ E) (near k) (scaled-size (pos 945500) (c3 h) 945500 (3 * E) (omega arith) c3-size) (omega arith))
       (scaled-size (pos 1200) (c5 h) 1200 (5 * E) (omega arith) c5-size) (omega arith) in
-      subst (λ (z : ℤ). 1114151300 * m / E - 2842500 ≤ natAbs (pos 1114151300 *ℤ z ÷ E -ℤ pos 945500 *ℤ c3 h ÷ E +ℤ pos 1200 *ℤ c5 h ÷ E)) (sym c1-pos) (omega (arith, n .low))
+      subst (λ (z : ℤ). Near k 2842500 (pos 1114151300 *ℤ z ÷ E -ℤ pos 945500 *ℤ c3 h ÷ E +ℤ pos 1200 *ℤ c5 h ÷ E)) (sym c1-pos) n
+
+  pub Q-near : (m : ℕ) → m ≤ natAbs (c1 h) → 100000000 ≤ m → 1114151300 * m / E - 2842500 ≤ natAbs (Q h)
+  Q-near m le some = let n = Q-about (le-trans some le) in omega (arith, n .low)
+
+  -- neither P nor Q is negative
+  pub P-is : P h ≡ pos (natAbs (P h))
+  P-is = P-near .is
+
+  pub Q-is : Q h ≡ pos (natAbs (Q h))
+  Q-is =
+      let x = xOf h in
+      let b = x-le h hh in
+      Q-about (le-trans (enough (x * x) (mul-le-mul b b)) (c1-low x (le-refl x))) .is
+    where
+      enough : (n : ℕ) → n ≤ 1310000000 * 1310000000 → 100000000 ≤ E - n / E / 2
+      enough n l = omega arith

@@ -7,6 +7,7 @@ use lib.IntN.{ℤ, pos, natAbs, _+ℤ_, _-ℤ_, _*ℤ_, +ℤ-comm}
 use Rattle.distance.specs.Distance.{_÷_, Placed, hOf, latGap, lonGap, P, Q, NS, EW, S}
 use Rattle.ground.proofs.Signed.{abs-add, abs-sub, abs-mul, abs-quot, abs-sub-comm}
 use Rattle.distance.proofs.Cosines.{P-high, Q-high, P-low}
+use Rattle.distance.proofs.Meridian.{lonGap-sym, smaller-way}
 
 pub along-size : (n : ℕ) (p : ℤ) (j k : ℕ) → n ≤ j → natAbs p ≤ k → natAbs (pos n *ℤ p ÷ 3600000) ≤ j * k / 3600000
 along-size n p j k hn hp = omega (arith, abs-quot (pos n *ℤ p) 3600000, abs-mul (pos n) p, mul-le-mul hn hp)
@@ -18,25 +19,20 @@ module _ {lat1 lon1 lat2 lon2 : ℤ} (a : Placed lat1 lon1) (b : Placed lat2 lon
   pub lat-gap : natAbs (lat1 -ℤ lat2) ≤ 540000
   lat-gap = omega (arith, abs-sub lat1 lat2, a .north, b .north)
 
-  pub lon-gap : lonGap lon1 lon2 ≤ 1296000
-  unfolding lonGap
-  lon-gap = omega (arith, abs-sub lon1 lon2, a .east, b .east)
+  pub lon-gap : lonGap lon1 lon2 ≤ 648000
+  lon-gap = let w = smaller-way lon1 lon2 (a .east) (b .east) in omega (arith, w .circle, w .smaller)
 
   pub NS-size : natAbs (NS lat1 lat2) ≤ 167549010
   unfolding NS
   NS-size = along-size (latGap lat1 lat2) (P (hOf lat1 lat2)) 540000 1116993400 lat-gap (P-high (hOf lat1 lat2) h-le)
 
-  pub EW-size : natAbs (EW lat1 lon1 lat2 lon2) ≤ 402117768
+  pub EW-size : natAbs (EW lat1 lon1 lat2 lon2) ≤ 201058884
   unfolding EW
-  EW-size = along-size (lonGap lon1 lon2) (Q (hOf lat1 lat2)) 1296000 1116993800 lon-gap (Q-high (hOf lat1 lat2) h-le)
+  EW-size = along-size (lonGap lon1 lon2) (Q (hOf lat1 lat2)) 648000 1116993800 lon-gap (Q-high (hOf lat1 lat2) h-le)
 
   pub S-size : S lat1 lon1 lat2 lon2 ≤ 200000000000000000
   unfolding S
   S-size = omega (arith, mul-le-mul NS-size NS-size, mul-le-mul EW-size EW-size)
-
-pub lonGap-sym : (lon1 lon2 : ℤ) → lonGap lon1 lon2 ≡ lonGap lon2 lon1
-unfolding lonGap
-lonGap-sym lon1 lon2 = abs-sub-comm lon1 lon2
 
 -- S is the same in either order
 pub S-sym : (lat1 lon1 lat2 lon2 : ℤ) → S lat1 lon1 lat2 lon2 ≡ S lat2 lon2 lat1 lon1

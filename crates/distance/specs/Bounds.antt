@@ -10,6 +10,6 @@ pub record MostHalves (lat : ℤ) (h : ℕ) : Type 0 where
 
 -- no degree of longitude is shorter there than r
 pub record LeastScale (lat : ℤ) (r : ℕ) : Type 0 where
-  pub some : 1000000 ≤ r
+  pub some : 100000000 ≤ r
   pub most : r ≤ 1200000000
   pub at : (lat2 : ℤ) → natAbs lat2 ≤ 270000 → latGap lat lat2 ≤ 9500 → r ≤ natAbs (Q (hOf lat lat2))

@@ -1,5 +1,5 @@
--- 01, Distance in whole numbers: 47 CFR 73.208(c) in integers, steps 1 to 6. Latitude and longitude are signed seconds
--- of arc, north and east positive. `a ÷ b` cuts toward zero. Assumes nothing.
+-- 01, Distance in whole numbers: 47 CFR 73.208(c) in integers, steps 1 to 6, with the longitude difference of 02, R-4.
+-- Latitude and longitude are signed seconds of arc, north and east positive. `a ÷ b` cuts toward zero. Assumes nothing.
 use Prim.Native.Nat.{ℕ, zero, suc, _+_, _-_, _*_, _/_, _<_, _≤_}
 use lib.IntN.{ℤ, pos, natAbs, _+ℤ_, _-ℤ_, _*ℤ_}
 use lib.Signed.{quotZ}
@@ -12,6 +12,10 @@ a ÷ b = quotZ a (pos b)
 
 abbrev pub E : ℕ
 E = 1000000000
+
+abbrev pub pick : Bool → ℕ → ℕ → ℕ
+pick true a b = a
+pick false a b = b
 
 -- latitude -270,000 to 270,000, longitude -648,000 to 648,000
 unfoldable pub latitudeOk : ℤ → Bool
@@ -68,12 +72,16 @@ P h = pos 1111320900 -ℤ pos 5660500 *ℤ c2 h ÷ E +ℤ pos 12000 *ℤ c4 h ÷
 unfoldable pub Q : ℕ → ℤ
 Q h = pos 1114151300 *ℤ c1 h ÷ E -ℤ pos 945500 *ℤ c3 h ÷ E +ℤ pos 1200 *ℤ c5 h ÷ E
 
--- 5. in decimetres: the differences, the plain one for the longitude; S is the square of the distance
+-- 5. in decimetres: the differences; S is the square of the distance
 abbrev pub latGap : ℤ → ℤ → ℕ
 latGap lat1 lat2 = natAbs (lat1 -ℤ lat2)
 
+-- 02, R-4: a longitude difference over 648,000 is replaced by 1,296,000 less it
+abbrev pub shortWay : ℕ → ℕ
+shortWay d = pick (ltb 648000 d) (1296000 - d) d
+
 unfoldable pub lonGap : ℤ → ℤ → ℕ
-lonGap lon1 lon2 = natAbs (lon1 -ℤ lon2)
+lonGap lon1 lon2 = shortWay (natAbs (lon1 -ℤ lon2))
 
 unfoldable pub NS : ℤ → ℤ → ℤ
 NS lat1 lat2 = pos (latGap lat1 lat2) *ℤ P (hOf lat1 lat2) ÷ 3600000
@@ -92,10 +100,6 @@ pub record Rounded (S D : ℕ) : Type 0 where
 
 -- the same as a function: the whole root of S, of at most 32 binary digits, rounded to 10,000, a half up.
 -- `D-is` and `unique` of proofs/Rounding: it is step 6's number, and there is no other
-abbrev pub pick : Bool → ℕ → ℕ → ℕ
-pick true a b = a
-pick false a b = b
-
 abbrev pub digit : ℕ → ℕ → ℕ
 digit S r = pick (ltb S ((r + 1) * (r + 1))) r (r + 1)
 

@@ -1,17 +1,9 @@
 // The distance of two sites in whole numbers: 47 CFR 73.208(c), as 01 puts it in integers.
 ghost use mathlib.Core.Path.{_≡_};
-ghost use Prim.Native.Nat.{_+_, _*_, _≤_, _<_};
+ghost use Prim.Native.Nat.{_+_, _*_, _/_, _≤_, _<_};
 ghost use lib.IntN.{ℤ, pos, natAbs, _+ℤ_, _-ℤ_, _*ℤ_};
 ghost use Rattle.distance.specs.Distance.{_÷_, E, next, series, lonGap, P, Q, S, root, D, latitudeOk, longitudeOk, Placed};
 ghost use Rattle.distance.specs.Bounds.{LeastScale, MostHalves};
-
-// |x|
-fn size(x: i64) -> u64
-    requires { ⌜ natAbs x ≤ 4000000000000000000 ⌝ }
-    ensures { λ r. ⌜ r ≡ natAbs x ⌝ }
-{
-    if x < 0 { (0 - x) as u64 } else { x as u64 }
-}
 
 // a × b / E, cut toward zero.
 fn scaled(a: i64, b: i64) -> i64
@@ -67,23 +59,24 @@ fn q_of(c1: i64, c3: i64, c5: i64) -> i64
     scaled(1_114_151_300, c1) - scaled(945_500, c3) + scaled(1_200, c5)
 }
 
+// The length of a degree of latitude and of one of longitude.
 pub struct Scales {
-    pub p: i64,
-    pub q: i64,
+    pub p: u64,
+    pub q: u64,
 }
 
-// P and Q at the mean latitude, which is h half-seconds.
+// P and Q at the mean latitude, which is h half-seconds: neither is negative.
 fn scales_at(h: u64) -> Scales
     requires { ⌜ h ≤ 540000 ⌝ }
-    ensures { λ r. ⌜ (r .p ≡ P h) × (r .q ≡ Q h) ⌝ }
+    ensures { λ r. ⌜ (pos (r .p) ≡ P h) × (pos (r .q) ≡ Q h) ⌝ }
 {
     let c1 = cosine(h * 2_424_068_405_548 / 1_000_000_000);
     let c2 = double_less(c1, c1, 1_000_000_000);
     let c4 = double_less(c2, c2, 1_000_000_000);
     let c3 = double_less(c1, c2, c1);
     let c5 = double_less(c1, c4, c3);
-    let p = p_of(c2, c4);
-    let q = q_of(c1, c3, c5);
+    let p = p_of(c2, c4) as u64;
+    let q = q_of(c1, c3, c5) as u64;
     Scales { p, q }
 }
 
@@ -110,27 +103,30 @@ pub fn gap_size(a: i32, b: i32) -> u64
     size_of(a - b)
 }
 
-// The difference of two longitudes.
+// The difference of two longitudes, the short way round.
 pub fn lon_gap(lon1: i32, lon2: i32) -> u64
     requires { ⌜ (natAbs lon1 ≤ 648000) × (natAbs lon2 ≤ 648000) ⌝ }
     ensures { λ r. ⌜ r ≡ lonGap lon1 lon2 ⌝ }
 {
-    gap_size(lon1, lon2)
+    let plain = gap_size(lon1, lon2);
+    if 648_000 < plain {
+        return 1_296_000 - plain;
+    }
+    plain
 }
 
 // n seconds at p per degree, in decimetres.
-fn along(n: u64, p: i64) -> i64
-    requires { ⌜ (n ≤ 2000000) × (natAbs p ≤ 2000000000) ⌝ }
-    ensures { λ r. ⌜ r ≡ pos n *ℤ p ÷ 3600000 ⌝ }
+fn along(n: u64, p: u64) -> u64
+    requires { ⌜ (n ≤ 2000000) × (p ≤ 2000000000) ⌝ }
+    ensures { λ r. ⌜ r ≡ n * p / 3600000 ⌝ }
 {
-    n as i64 * p / 3_600_000
+    n * p / 3_600_000
 }
 
-fn square(z: i64) -> u64
-    requires { ⌜ natAbs z ≤ 2000000000 ⌝ }
-    ensures { λ r. ⌜ r ≡ natAbs z * natAbs z ⌝ }
+fn square(n: u64) -> u64
+    requires { ⌜ n ≤ 2000000000 ⌝ }
+    ensures { λ r. ⌜ r ≡ n * n ⌝ }
 {
-    let n = size(z);
     n * n
 }
 

@@ -1,4 +1,4 @@
-// The cases whose answers are given: check and arrange with an id left aside, reason, and read.
+// The cases whose answers are given: check and arrange with an id left aside, reason, read, and across the 180th meridian.
 use beside::compare_all_rows;
 use beside::compare_number;
 use beside::compare_one_place;
@@ -6,16 +6,17 @@ use beside::compare_reason;
 use beside::second_number;
 use beside::second_reason;
 use beside::second_rows;
+use cases::DISTANCE;
 use cases::GIVEN;
 use cases::GIVEN_BYTES;
 use cases::Question;
-use cases::READ;
 use cases::REASON;
 use cases::UNTOLD;
 use cases::given_case;
 use cases::put_given_table;
 use tally::MOST;
 use tally::Notes;
+use tally::first_four;
 use tally::least;
 use tally::same_told;
 use tally::unlike;
@@ -32,18 +33,27 @@ pub(crate) fn number_as(q: Question, table: &[u8], number: u64, notes: &mut Note
     unlike(q, table, answer, number)
 }
 
-// Whether the answers to check or arrange, with all the room and with one place for rows, are the given ones.
-fn answers_as(q: Question, table: &[u8], all: u64, one: u64, notes: &mut Notes) -> bool {
+// Whether the answers to check or arrange, with all the room and with one place for rows, and the first four numbers of the rows
+// are the given ones.
+fn answers_as(
+    q: Question,
+    table: &[u8],
+    all: u64,
+    one: u64,
+    told: &[u32; 4],
+    notes: &mut Notes,
+) -> bool {
     if !compare_all_rows(q, table, notes) {
         return false;
     }
     if !compare_one_place(q, table, notes) {
         return false;
     }
-    let mut rows = [0u32; MOST];
+    let mut rows = [UNTOLD; MOST];
     let answer = second_rows(q, table, &mut rows);
-    if answer != all {
-        return unlike(q, table, answer, all);
+    let first = first_four(&rows);
+    if !same_told(q, table, answer, all, &first, told, notes) {
+        return false;
     }
     let mut place = [0u32; 1];
     let narrow = second_rows(q, table, &mut place);
@@ -67,13 +77,13 @@ fn reason_as(q: Question, table: &[u8], answer: u64, told: &[u32; 4], notes: &mu
 fn given_as(k: u32, table: &[u8], notes: &mut Notes) -> bool {
     let given = given_case(k);
     let q = given.question;
-    if q.kind == READ {
+    if q.kind <= DISTANCE {
         return number_as(q, table, given.answer, notes);
     }
     if q.kind == REASON {
         return reason_as(q, table, given.answer, &given.told, notes);
     }
-    answers_as(q, table, given.answer, given.narrow, notes)
+    answers_as(q, table, given.answer, given.narrow, &given.told, notes)
 }
 
 // The same with its table.

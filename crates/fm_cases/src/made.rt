@@ -29,7 +29,7 @@ fn one_case(
     let kind = kind_of(state, run.question);
     let n = records_of(state, run);
     let id = first_id(state);
-    let q = made_question(state, kind, id, n);
+    let q = made_question(state, kind, run.style, id, n);
     let length = case_table(state, run, q, id, n, table);
     let end = least(length, table.len());
     compare(state, q, &table[..end], mine, other, notes)

@@ -5,7 +5,7 @@ use super::signed::gap;
 use super::signed::sum;
 use super::signed::unlike;
 ghost use mathlib.Core.Path.{_≡_};
-ghost use Prim.Native.Nat.{_+_, _-_, _*_, _≤_};
+ghost use Prim.Native.Nat.{_+_, _-_, _*_, _≤_, _<_};
 
 // 10^9, the unit of the fractions.
 const E: u64 = 1_000_000_000;
@@ -13,7 +13,7 @@ const E: u64 = 1_000_000_000;
 // Seconds of latitude from one end of the range to the other.
 pub const LATITUDES: u64 = 540_000;
 
-// Seconds of longitude from one end of the range to the other.
+// Seconds of longitude from one end of the range to the other: the whole circle.
 pub const LONGITUDES: u64 = 1_296_000;
 
 // |a - b|.
@@ -24,6 +24,24 @@ pub(crate) fn apart(a: u64, b: u64) -> u64
         return b - a;
     }
     a - b
+}
+
+// Seconds east from one longitude to another, round the whole circle.
+fn eastward(east1: u64, east2: u64) -> u64
+    requires { ⌜ (east1 ≤ 1296000) × (east2 ≤ 1296000) ⌝ }
+    ensures { λ r. ⌜ r < 1296000 ⌝ }
+{
+    (east2 + LONGITUDES - east1) % LONGITUDES
+}
+
+// The longitude difference: the way east or the rest of the circle, whichever is shorter.
+fn longitude_difference(east1: u64, east2: u64) -> u64
+    requires { ⌜ (east1 ≤ 1296000) × (east2 ≤ 1296000) ⌝ }
+    ensures { λ r. ⌜ r ≤ 648000 ⌝ }
+{
+    let way = eastward(east1, east2);
+    let rest = LONGITUDES - way;
+    if rest < way { rest } else { way }
 }
 
 // The divisor of step 2 behind the term with the index k.
@@ -168,7 +186,7 @@ fn squared_distance(north1: u64, east1: u64, north2: u64, east2: u64) -> u64 {
     let c1 = cosine(apart(n1 + n2, LATITUDES));
     let c2 = doubled(c1);
     let ns = leg(apart(n1, n2), latitude_degree(c2));
-    let ew = leg(apart(e1, e2), longitude_degree(c1, c2));
+    let ew = leg(longitude_difference(e1, e2), longitude_degree(c1, c2));
     square(ns) + square(ew)
 }
 

@@ -29,9 +29,9 @@ east-up : (scale r t : ℕ) → 0 < scale → r ≤ t → eastOf scale r ≤ eas
 unfolding eastOf
 east-up scale r t s h = let d = div-up ((10000 * r - 5000) * 3600000) ((10000 * t - 5000) * 3600000) scale s (omega arith) in omega (arith, d)
 
-east-seconds : (scale r : ℕ) → 1000000 ≤ scale → r ≤ 290 → Seconds (eastOf scale r)
+east-seconds : (scale r : ℕ) → 100000000 ≤ scale → r ≤ 290 → Seconds (eastOf scale r)
 unfolding eastOf
-east-seconds scale r s h = let d = div-down ((10000 * r - 5000) * 3600000) 1000000 scale (lit< tt) s in record { some = omega arith; most = omega (arith, d) }
+east-seconds scale r s h = let d = div-down ((10000 * r - 5000) * 3600000) 100000000 scale (lit< tt) s in record { some = omega arith; most = omega (arith, d) }
 
 -- a degree of latitude is one of the scale 1,105,648,400
 north-up : (r t : ℕ) → r ≤ t → northOf r ≤ northOf t

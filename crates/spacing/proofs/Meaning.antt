@@ -1,5 +1,6 @@
--- What the pair rule means: a pair is short exactly as the owner words it, in either order; no pair at or below 220, and none at
--- another difference than 0, 1, 2, 3, 53 and 54, is short. Over any table of separations. Assumes nothing.
+-- What the pair rule means: a pair is short exactly as the owner words it, in either order, and on the 180th meridian by either
+-- longitude; no pair at or below 220, and none at another difference than 0, 1, 2, 3, 53 and 54, is short. Over any table of
+-- separations. Assumes nothing.
 use mathlib.Core.Path.{_≡_, refl, sym, _∙_}
 use mathlib.Core.Logic.{_↔_, _⊎_, inl, inr}
 use mathlib.Core.Bool.{Bool, true, false, and-comm, true≢false}
@@ -8,15 +9,17 @@ use native.Mathlib.Nat.{add-comm, lt-of-le-of-lt}
 use native.Mathlib.Decide.{decLt}
 use native.Mathlib.Omega.{arith}
 use lib.Dec.{leb, lit<}
+use lib.IntN.{ℤ, pos, negsuc}
 use borrow.Author.Tests.{ltb-true, lt-ltb}
 use Rattle.distance.specs.Distance.{Placed, Rounded, D}
+use Rattle.distance.proofs.Meridian.{S-meridian}
 use Rattle.distance.proofs.Rounding.{D-is, unique}
 use Rattle.distance.proofs.Squares.{S-sym, S-size}
 use Rattle.part73.specs.Columns.{gap, none}
 use Rattle.part73.specs.Separations.{Separations}
 use Rattle.part73.specs.TableA.{tableA}
 use Rattle.part73.proofs.Facts.{column-none, table-a}
-use Rattle.spacing.specs.Pair.{Assignment, exempt, columnFor, separation, squareOf, distanceOf, shortBy, short}
+use Rattle.spacing.specs.Pair.{Assignment, assignment, exempt, columnFor, separation, squareOf, distanceOf, shortBy, short}
 use Rattle.spacing.specs.Meaning.{HeldShort}
 use Rattle.spacing.proofs.Rule.{column-most, for-open, for-exempt, for-some, exempt-low, open-high, by-none}
 
@@ -43,6 +46,11 @@ above-220 x y e = go (decLt 220 x) (decLt 220 y)
     go (yes h) k = inl h
     go (no n) (yes k) = inr k
     go (no n) (no m) = absurd (true≢false (sym (exempt-low x y (omega arith) (omega arith)) ∙ e))
+
+-- a station on the 180th meridian is short to the same others by either of its longitudes
+pub short-meridian : (km : ℕ → ℕ → ℕ → ℕ) (channel class : ℕ) (latitude : ℤ) (q : Assignment) → Placed (q .latitude) (q .longitude) → shortBy km (assignment channel class latitude (pos 648000)) q ≡ shortBy km (assignment channel class latitude (negsuc 647999)) q
+unfolding shortBy separation distanceOf squareOf
+short-meridian km channel class latitude q placed = rw (S-meridian latitude (q .latitude) (q .longitude) (placed .east))
 
 module _ {km : ℕ → ℕ → ℕ → ℕ} (table : Separations km) where
   -- either order of the pair

@@ -35,10 +35,10 @@ pub record Clears (km : ℕ → ℕ → ℕ → ℕ) (p q : Place) (r : Bool) : 
 pub record Beyond (a : Around) (latitude longitude : ℤ) : Type 0 where
   pub either : (a .up ≤ latGap (a .latitude) latitude) ⊎ (a .across ≤ lonGap (a .longitude) longitude)
 
--- seconds that a box may reach from its middle
+-- seconds that a box may reach from its middle: at most a quarter of the circle
 pub record Seconds (n : ℕ) : Type 0 where
   pub some : 0 < n
-  pub most : n ≤ 100000000
+  pub most : n ≤ 324000
 
 -- a box that a walk can go by
 pub record Fair (a : Around) : Type 0 where

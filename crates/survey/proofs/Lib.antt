@@ -1,4 +1,4 @@
 pub mod Records
 pub mod Shorts
 pub mod Studied
-pub mod Boxes
+pub mod Frames

@@ -2,19 +2,17 @@
 use mathlib.Core.Path.{_≡_}
 use mathlib.Core.Bool.{Bool, true, _&&_}
 use mathlib.Core.List.{List}
-use Prim.Native.Nat.{ℕ, _≤_}
-use lib.IntN.{ℤ, natAbs, _-ℤ_}
+use Prim.Native.Nat.{ℕ, _-_, _≤_}
 use lib.ListN.{length}
-use mir.Syntax.{w32}
-use mir.Val.{toZ}
 use Rattle.ground.specs.Passing.{Passing}
 use Rattle.part73.specs.Channels.{channelCount}
 use Rattle.part73.specs.TableA.{tableA}
 use Rattle.spacing.specs.Pair.{Assignment}
 use Rattle.spacing.specs.Limits.{LimitsAt}
-use Rattle.spacing.specs.Reaching.{InRange, Beyond, Fair}
-use Rattle.spacing.specs.declared.Around.{Around}
+use Rattle.spacing.specs.Reaching.{InRange}
 use Rattle.spacing.specs.declared.Place.{Place}
+use Rattle.framing.specs.Frames.{Unframed}
+use Rattle.framing.specs.declared.Frame.{Frame}
 use Rattle.stations.specs.Image.{stationAt, count, Accepted}
 use Rattle.stations.specs.declared.Station.{Station}
 use Rattle.marking.specs.Marks.{Asked}
@@ -25,23 +23,20 @@ use Rattle.survey.specs.Ways.{near}
 unfoldable pub blocks : (ℕ → ℕ → ℕ → ℕ) → (Station → Bool) → List ℕ → Assignment → ℕ → Bool
 blocks km look s p j = look (stationAt s j) && near km p (stationAt s j)
 
--- where r says so, the number with the bits x is at least `far` from z
-pub record Away (z : ℤ) (x far : ℕ) (r : Bool) : Type 0 where
-  pub told : r ≡ true → far ≤ natAbs (z -ℤ toZ w32 x)
-
--- where r says so, a station lies outside a box
-pub record Outside (a : Around) (x : Station) (r : Bool) : Type 0 where
-  pub told : r ≡ true → Beyond a (x .latitude) (x .longitude)
+-- where r says so, a station lies outside of a frame
+pub record Outside (f : Frame) (x : Station) (r : Bool) : Type 0 where
+  pub told : r ≡ true → Unframed f (x .latitude) (x .longitude)
 
 -- from one position to another every record does
-abbrev pub Skipped : List ℕ → Around → ℕ → ℕ → Type 0
-Skipped s a from to = Passing (λ j. Beyond a (stationAt s j .latitude) (stationAt s j .longitude)) (count s) from to
+abbrev pub Skipped : List ℕ → Frame → ℕ → ℕ → Type 0
+Skipped s f from to = Passing (λ j. Unframed f (stationAt s j .latitude) (stationAt s j .longitude)) (count s) from to
 
--- a box that a walk from a position on goes by
-pub record Boxed (s : List ℕ) (from : ℕ) (a : Around) : Type 0 where
+-- a walk that goes on from a position, in turns of four up to `stop`, to the count n
+pub record Onward (s : List ℕ) (from stop n : ℕ) : Type 0 where
   pub accepted : Accepted s
   pub within : from ≤ count s
-  pub fair : Fair a
+  pub turns : stop ≡ n - 3
+  pub all : n ≡ count s
 
 -- a walk over an accepted table for a class at a site, with its limits
 pub record Walk (s : List ℕ) (p : Place) (limits : List ℕ) : Type 0 where

@@ -110,13 +110,13 @@ pub fn survey(
     requires { ⌜ Survey (now table) place (now limits) channels (now marks) ⌝ }
     ensures { λ _. ⌜ Marked (λ m j. blocks tableA (looked terms) (now (table .entry)) (sited place m) j) (channels .first) (channels .last) (count (now (table .entry))) (now (marks .exit)) ⌝ }
 {
+    let frame = framing::frame_around(place, limits);
     wipe(marks);
     let n = stations::count_of(table);
     let stop = stations::turns_end(table);
-    let around = spacing::box_around(place, limits);
     let mut from: usize = 0;
     while from < n {
-        let i = next_close(table, from, stop, n, around);
+        let i = next_close(table, from, stop, n, frame);
         if n <= i {
             return;
         }

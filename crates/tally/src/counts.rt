@@ -10,8 +10,9 @@ use cases::mixed;
 ghost use Prim.Native.Nat.{_+_, _≤_, _<_};
 
 // The counts, of 26 numbers (0 where it is granted) for each of eight questions; behind them those of the reasons, clear and by
-// column; behind these those of the granted images, by version; and last the digest.
-pub type Notes = [u64; 218];
+// column; behind these those of the granted images, by version; those of the questions across the 180th meridian; and last the
+// digest.
+pub type Notes = [u64; 226];
 
 // Where the counts of the reasons start.
 pub(crate) const WAYS: usize = 208;
@@ -19,12 +20,15 @@ pub(crate) const WAYS: usize = 208;
 // Where the counts of the granted images start.
 pub(crate) const IMAGES: usize = 213;
 
+// Where the counts of the questions across the 180th meridian start.
+pub(crate) const MERIDIAN: usize = 217;
+
 // Where the digest stands.
-const DIGEST: usize = 217;
+const DIGEST: usize = 225;
 
 // Notes before the first question.
 pub fn fresh_notes() -> Notes {
-    let mut notes = [0u64; 218];
+    let mut notes = [0u64; 226];
     notes[DIGEST] = SEED;
     notes
 }
@@ -55,7 +59,7 @@ fn place(kind: u32, number: u64) -> usize
 
 // Adds one to the count at a place.
 pub(crate) fn count_one(notes: &mut Notes, at: usize)
-    requires { ⌜ at < 218 ⌝ }
+    requires { ⌜ at < 226 ⌝ }
 {
     notes[at] = std::num::wrapping_add_u64(notes[at], 1);
 }
@@ -142,7 +146,7 @@ fn print_line(notes: &Notes, number: u64) -> u64
 
 // Writes the counts from a place up to another, and gives how many of them are 0.
 fn print_part(notes: &Notes, from: usize, to: usize) -> u64
-    requires { ⌜ (from ≤ to) × (to ≤ 218) ⌝ }
+    requires { ⌜ (from ≤ to) × (to ≤ 226) ⌝ }
     ensures { λ r. ⌜ r + from ≤ to ⌝ }
 {
     let mut missing: u64 = 0;
@@ -155,9 +159,10 @@ fn print_part(notes: &Notes, from: usize, to: usize) -> u64
     missing
 }
 
-// Writes the counts of the reasons and of the granted images, and gives how many of these ways never came.
+// Writes the counts of the reasons, of the granted images and of the questions across the 180th meridian, and gives how many of
+// these ways never came.
 fn print_ways(notes: &Notes) -> u64
-    ensures { λ r. ⌜ r ≤ 9 ⌝ }
+    ensures { λ r. ⌜ r ≤ 17 ⌝ }
 {
     io::write_all(1, b"reason: clear, and blocked by column:");
     let reasons = print_part(notes, WAYS, IMAGES);
@@ -165,8 +170,10 @@ fn print_ways(notes: &Notes) -> u64
         1,
         b"granted image: version 1 from 1, 2 from 1, 1 from 2, 2 from 2:",
     );
-    let images = print_part(notes, IMAGES, DIGEST);
-    reasons + images
+    let images = print_part(notes, IMAGES, MERIDIAN);
+    io::write_all(1, b"questions across the 180th meridian:");
+    let across = print_part(notes, MERIDIAN, DIGEST);
+    reasons + images + across
 }
 
 // Writes the counts number by number, and gives how many of the possible answers never came.

@@ -19,6 +19,11 @@ fn at(rows: &[u32], place: usize) -> u32 {
     0
 }
 
+// The first four numbers of rows, 0 past the end.
+pub fn first_four(rows: &[u32]) -> [u32; 4] {
+    [at(rows, 0), at(rows, 1), at(rows, 2), at(rows, 3)]
+}
+
 // Whether a row starts at a place.
 pub fn stands(rows: &[u32], place: usize, row: Row) -> bool
     requires { ⌜ place ≤ 1000 ⌝ }

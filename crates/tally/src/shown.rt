@@ -2,6 +2,7 @@
 use super::counts::extra_of;
 use super::counts::number_of;
 use cases::Question;
+ghost use Prim.Native.Nat.{_<_};
 
 // Writes a space and a number.
 fn print_number(value: u64) {
@@ -51,7 +52,9 @@ fn print_answer(answer: u64) {
 }
 
 // A byte as a wide number.
-pub(crate) fn wide(x: u8) -> u64 {
+pub(crate) fn wide(x: u8) -> u64
+    ensures { λ r. ⌜ r < 256 ⌝ }
+{
     x as u64
 }
 

@@ -1,15 +1,17 @@
 -- `distance::scales_at` meets its contract: each local is the cosine that it is named after. Assumes nothing.
 use borrow.Author.Needs.{needs}
-use mathlib.Core.Path.{_≡_, ap, ap₂, _∙_}
+use mathlib.Core.Path.{_≡_, sym, ap, ap₂, _∙_, subst}
 use Prim.Native.Nat.{_*_, _≤_}
 use native.Mathlib.Nat.{le-trans}
-use lib.Dec.{lit≤}
-use lib.IntN.{ℤ, pos, _+ℤ_, _-ℤ_, _*ℤ_}
+use native.Mathlib.Omega.{arith}
+use lib.Dec.{T, lit≤}
+use lib.IntN.{ℤ, pos, natAbs, _+ℤ_, _-ℤ_, _*ℤ_}
+use lib.Signed.{nonNeg}
 use mir.Syntax.{w64}
-use mir.Val.{toZ, ofZ}
+use mir.Val.{Fits, toZ, ofZ}
 use Rattle.distance.specs.Distance.{_÷_, E, c1, c2, c3, c4, c5, P, Q}
 use Rattle.ground.proofs.Signed.{back, size-of}
-use Rattle.distance.proofs.Cosines.{x-le, c1-size, c2-size, c3-size, c4-size, c5-size}
+use Rattle.distance.proofs.Cosines.{x-le, c1-size, c2-size, c3-size, c4-size, c5-size, P-is, P-high, Q-is, Q-high}
 use Rattle.distance.proofs.scales_at.Statement.{statement}
 use Rattle.distance.proofs.scales_at.Tie as tie
 
@@ -77,13 +79,36 @@ q-of-requires c κs =
     let p = c .before .before .before .before .before .before .pre in
     (size-of E (is1 (c .before .before .before .before .before)) (c1-size _ p), size-of (3 * E) (is3 (c .before .before)) (c3-size _ p), size-of (5 * E) (is5 (c .before)) (c5-size _ p))
 
+isP : (c : tie.After-p-of) → read (c .p-of .result) ≡ P (c .before .before .before .before .before .before .args .h)
+unfolding P
+isP c =
+    let d = c .before in
+    back (c .p-of .ok) (c .p-of .ensures ∙ ap₂ (λ (y z : ℤ). pos 1111320900 -ℤ pos 5660500 *ℤ y ÷ E +ℤ pos 12000 *ℤ z ÷ E) (is2 (d .before .before .before)) (is4 (d .before .before)))
+
+isQ : (c : tie.After-q-of) → read (c .q-of .result) ≡ Q (c .before .before .before .before .before .before .before .args .h)
+unfolding Q
+isQ c =
+    let d = c .before .before in
+    back (c .q-of .ok) (c .q-of .ensures ∙ (λ i. pos 1114151300 *ℤ is1 (d .before .before .before .before) i ÷ E -ℤ pos 945500 *ℤ is3 (d .before) i ÷ E +ℤ pos 1200 *ℤ is5 d i ÷ E))
+
+-- a number that is not negative, and what it is cast to
+cast : {r z : ℤ} → r ≡ z → z ≡ pos (natAbs z) → natAbs z ≤ 1200000000 → T (nonNeg r) × Fits w64 (natAbs r)
+cast {r} {z} e is most = subst (λ (y : ℤ). T (nonNeg y) × Fits w64 (natAbs y)) (sym (e ∙ is)) (tt, omega arith)
+
+cast-p : tie.Need-cast-p
+cast-p c =
+    let h = c .before .before .before .before .before .before in
+    cast (isP c) (P-is _ (h .pre)) (le-trans (P-high _ (h .pre)) (lit≤ tt))
+
+cast-q : tie.Need-cast-q
+cast-q c =
+    let h = c .before .before .before .before .before .before .before in
+    cast (isQ c) (Q-is _ (h .pre)) (le-trans (Q-high _ (h .pre)) (lit≤ tt))
+
 returns : tie.Need-returns
-unfolding P Q
 returns c =
-    let d = c .before .before in (
-      back (c .before .p-of .ok) (c .before .p-of .ensures ∙ ap₂ (λ (y z : ℤ). pos 1111320900 -ℤ pos 5660500 *ℤ y ÷ E +ℤ pos 12000 *ℤ z ÷ E) (is2 (d .before .before .before)) (is4 (d .before .before))),
-      back (c .q-of .ok) (c .q-of .ensures ∙ (λ i. pos 1114151300 *ℤ is1 (d .before .before .before .before) i ÷ E -ℤ pos 945500 *ℤ is3 (d .before) i ÷ E +ℤ pos 1200 *ℤ is5 d i ÷ E)),
-    )
+    let h = c .before .before .before .before .before .before .before in
+    (ap (λ (z : ℤ). pos (natAbs z)) (isP (c .before)) ∙ sym (P-is _ (h .pre)), ap (λ (z : ℤ). pos (natAbs z)) (isQ c) ∙ sym (Q-is _ (h .pre)))
 
 pub scales-at-spec : {M : Type 1} → statement M
 scales-at-spec =
@@ -96,5 +121,7 @@ scales-at-spec =
     double-less-requires-3
     double-less-requires-4
     p-of-requires
+    cast-p
     q-of-requires
+    cast-q
     returns)

@@ -11,58 +11,58 @@ use Rattle.survey.specs.Walking.{blocks}
 use Rattle.marking.specs.Marks.{Marked}
 use Rattle.survey.proofs.Records.{few, header-room}
 use Rattle.marking.proofs.Marks.{marked-start, marked-turn}
-use Rattle.survey.proofs.Boxes.{marked-on}
+use Rattle.survey.proofs.Frames.{marked-on}
 use Rattle.survey.proofs.survey.Statement.{statement}
 use Rattle.survey.proofs.survey.Tie as tie
 
 abbrev Inv-loop : tie.InvT-loop
-Inv-loop table terms place limits channels marks₀ n stop around from₀ marks from = (from ≤ count table) × Marked (λ m j. blocks tableA (looked terms) table (sited place m) j) (channels .first) (channels .last) from marks
+Inv-loop table terms place limits channels marks₀ frame n stop from₀ marks from = (from ≤ count table) × Marked (λ m j. blocks tableA (looked terms) table (sited place m) j) (channels .first) (channels .last) from marks
 
 abbrev μ-loop : tie.MeasureT-loop
-μ-loop table terms place limits channels marks₀ n stop around from₀ marks from = n - from
+μ-loop table terms place limits channels marks₀ frame n stop from₀ marks from = n - from
+
+frame-around-requires : tie.Need-frame-around-requires Inv-loop μ-loop
+frame-around-requires c κs = let w = c .before .pre .walk in (w .held, w .placed)
 
 wipe-requires : tie.Need-wipe-requires Inv-loop μ-loop
-wipe-requires c κs = c .before .before .pre .long
+wipe-requires c κs = c .before .before .before .pre .long
 
 count-of-requires : tie.Need-count-of-requires Inv-loop μ-loop
-count-of-requires c κs = header-room _ (c .before .before .before .pre .walk .accepted)
+count-of-requires c κs = header-room _ (c .before .before .before .before .pre .walk .accepted)
 
 turns-end-requires : tie.Need-turns-end-requires Inv-loop μ-loop
-turns-end-requires c κs = header-room _ (c .before .before .before .before .pre .walk .accepted)
-
-box-around-requires : tie.Need-box-around-requires Inv-loop μ-loop
-box-around-requires c κs = let w = c .before .before .before .before .before .pre .walk in (w .held, w .placed)
+turns-end-requires c κs = header-room _ (c .before .before .before .before .before .pre .walk .accepted)
 
 loop-holds : tie.Need-loop-holds Inv-loop μ-loop
 loop-holds c =
-    let w = c .before .before .before in
-    let s = w .before .before .before in
+    let w = c .before .before in
+    let s = w .before .before .before .before in
     (omega arith, marked-start _ (s .pre .asked .low) (s .pre .asked .high) (w .wipe .ensures))
 
 next-close-requires : tie.Need-next-close-requires Inv-loop μ-loop
 next-close-requires c κs =
     let l = c .before in
     let b = l .before in
-    (record { accepted = b .before .before .before .before .before .before .pre .walk .accepted; within = l .loop .inv .0; fair = b .box-around .ensures .fair }, omega arith, omega arith)
+    record { accepted = b .before .before .before .before .before .before .pre .walk .accepted; within = l .loop .inv .0; turns = omega arith; all = omega arith }
 
 -- the marks up to the next record that is close
 on : (c : tie.After-next-close Inv-loop μ-loop) → let l = c .before .before in let s = l .before .before .before .before .before .before .before in Marked (λ m j. blocks tableA (looked (s .args .terms)) (now (s .args .table)) (sited (s .args .place) m) j) (s .args .channels .first) (s .args .channels .last) (c .next-close .result) (l .loop .marks)
 on c =
     let l = c .before .before in
-    let b = l .before in
-    let s = b .before .before .before .before .before .before in
-    marked-on _ (s .pre .walk .accepted) (b .box-around .ensures) (c .next-close .ensures) (looked (s .args .terms)) (l .loop .inv .1)
+    let f = l .before .before .before .before .before in
+    let s = f .before .before in
+    marked-on _ (s .pre .walk .accepted) (f .frame-around .ensures) (c .next-close .ensures) (looked (s .args .terms)) (l .loop .inv .1)
 
 returns : tie.Need-returns Inv-loop μ-loop
 returns c =
     let k = c .before in
-    let n = k .before .before .before .before .before in
-    let s = n .before .before .before .before in
+    let n = k .before .before .before .before in
+    let s = n .before .before .before .before .before in
     let e : k .next-close .result ≡ count (now (s .args .table)) = omega (arith, n .count-of .ensures, k .next-close .ensures .upto, c .if1 .taken) in
     rw e at (on k)
 
 within : (c : tie.Else1 Inv-loop μ-loop) → let s = c .before .before .before .before .before .before .before .before .before .before in c .before .next-close .result < count (now (s .args .table))
-within c = let n = c .before .before .before .before .before .before in omega (arith, n .count-of .ensures, c .if1 .left)
+within c = let n = c .before .before .before .before .before in omega (arith, n .count-of .ensures, c .if1 .left)
 
 look-at-requires : tie.Need-look-at-requires Inv-loop μ-loop
 look-at-requires c κs =
@@ -88,8 +88,8 @@ loop-again c = let e = c .before .before in (omega (arith, within e), marked-tur
 returns-2 : tie.Need-returns-2 Inv-loop μ-loop
 returns-2 c =
     let l = c .before in
-    let n = l .before .before .before in
-    let s = n .before .before .before .before in
+    let n = l .before .before in
+    let s = n .before .before .before .before .before in
     let e : l .loop .from ≡ count (now (s .args .table)) = omega (arith, n .count-of .ensures, l .loop .inv .0, c .loop-test .left) in
     rw e at (l .loop .inv .1)
 
@@ -99,10 +99,10 @@ survey-spec =
     (tie.spec
     Inv-loop
     μ-loop
+    frame-around-requires
     wipe-requires
     count-of-requires
     turns-end-requires
-    box-around-requires
     loop-holds
     next-close-requires
     returns

@@ -6,39 +6,36 @@ use native.Mathlib.Omega.{arith}
 use denote.Ref.{now}
 use Rattle.ground.proofs.Guards.{not-was}
 use Rattle.ground.proofs.Passes.{pass-start, pass-one}
-use Rattle.spacing.specs.Reaching.{Beyond}
-use Rattle.spacing.specs.declared.Around.{Around}
-use Rattle.stations.specs.Image.{count}
+use Rattle.stations.specs.Image.{count, Accepted}
 use Rattle.stations.specs.declared.Station.{Station}
-use Rattle.survey.specs.Walking.{Skipped, Outside, Boxed}
+use Rattle.framing.specs.Frames.{Unframed}
+use Rattle.framing.specs.declared.Frame.{Frame}
+use Rattle.survey.specs.Walking.{Skipped, Outside}
 use Rattle.survey.proofs.closeness.next_close.Statement.{statement}
 use Rattle.survey.proofs.closeness.next_close.Tie as tie
 
 abbrev Inv-loop : tie.InvT-loop
-Inv-loop table from stop n around j₀ j = Skipped table around from j
+Inv-loop table from stop n frame j₀ j = Skipped table frame from j
 
 abbrev μ-loop : tie.MeasureT-loop
-μ-loop table from stop n around j₀ j = n - j
+μ-loop table from stop n frame j₀ j = n - j
 
 abbrev Inv-loop2 : tie.InvT-loop2
-Inv-loop2 table from stop n around j₀ j = Skipped table around from j
+Inv-loop2 table from stop n frame j₀ j = Skipped table frame from j
 
 abbrev μ-loop2 : tie.MeasureT-loop2
-μ-loop2 table from stop n around j₀ j = n - j
+μ-loop2 table from stop n frame j₀ j = n - j
 
 abbrev passed : tie.Start Inv-loop μ-loop Inv-loop2 μ-loop2 → ℕ → Type 0
-passed s i = Skipped (now (s .args .table)) (s .args .around) (s .args .from) i
+passed s i = Skipped (now (s .args .table)) (s .args .frame) (s .args .from) i
 
 -- a record whose test is true
-out : {a : Around} {r : Station} {t : Bool} → Outside a r t → not t ≡ false → Beyond a (r .latitude) (r .longitude)
+out : {f : Frame} {r : Station} {t : Bool} → Outside f r t → not t ≡ false → Unframed f (r .latitude) (r .longitude)
 out o e = o .told (not-was _ e)
 
 -- the walk goes on from a later position
-boxed : (s : tie.Start Inv-loop μ-loop Inv-loop2 μ-loop2) (i : ℕ) → i < s .args .n → Boxed (now (s .args .table)) i (s .args .around) × (i < count (now (s .args .table)))
-boxed s i h =
-    let b = s .pre .0 in
-    let e = s .pre .2 in
-    (record { accepted = b .accepted; within = omega arith; fair = b .fair }, omega arith)
+going : (s : tie.Start Inv-loop μ-loop Inv-loop2 μ-loop2) (i : ℕ) → i < s .args .n → Accepted (now (s .args .table)) × (i < count (now (s .args .table)))
+going s i h = (s .pre .accepted, omega (arith, s .pre .all))
 
 -- none of one, two, three, four records of a turn
 one : (c : tie.Else1 Inv-loop μ-loop Inv-loop2 μ-loop2) → passed (c .before .before .before .before .before) (c .before .before .before .loop .j + 1)
@@ -54,10 +51,10 @@ four : (c : tie.Else4 Inv-loop μ-loop Inv-loop2 μ-loop2) → passed (c .before
 four c = pass-one (three (c .before .before)) _ (omega arith) (omega arith) (out (c .before .outside4 .ensures) (c .if4 .left))
 
 loop-holds : tie.Need-loop-holds Inv-loop μ-loop Inv-loop2 μ-loop2
-loop-holds c = pass-start (c .before .pre .0 .within)
+loop-holds c = pass-start (c .before .pre .within)
 
 outside-requires : tie.Need-outside-requires Inv-loop μ-loop Inv-loop2 μ-loop2
-outside-requires c κs = boxed (c .before .before .before) _ (omega arith)
+outside-requires c κs = going (c .before .before .before) _ (omega arith)
 
 returns : tie.Need-returns Inv-loop μ-loop Inv-loop2 μ-loop2
 returns c = c .before .before .before .loop .inv
@@ -66,7 +63,7 @@ add-outside : tie.Need-add-outside Inv-loop μ-loop Inv-loop2 μ-loop2
 add-outside c = omega arith
 
 outside-requires-2 : tie.Need-outside-requires-2 Inv-loop μ-loop Inv-loop2 μ-loop2
-outside-requires-2 c κs = boxed (c .before .before .before .before .before) _ (omega arith)
+outside-requires-2 c κs = going (c .before .before .before .before .before) _ (omega arith)
 
 add-result : tie.Need-add-result Inv-loop μ-loop Inv-loop2 μ-loop2
 add-result c = omega arith
@@ -78,7 +75,7 @@ add-outside-2 : tie.Need-add-outside-2 Inv-loop μ-loop Inv-loop2 μ-loop2
 add-outside-2 c = omega arith
 
 outside-requires-3 : tie.Need-outside-requires-3 Inv-loop μ-loop Inv-loop2 μ-loop2
-outside-requires-3 c κs = boxed (c .before .before .before .before .before .before .before) _ (omega arith)
+outside-requires-3 c κs = going (c .before .before .before .before .before .before .before) _ (omega arith)
 
 add-result-2 : tie.Need-add-result-2 Inv-loop μ-loop Inv-loop2 μ-loop2
 add-result-2 c = omega arith
@@ -90,7 +87,7 @@ add-outside-3 : tie.Need-add-outside-3 Inv-loop μ-loop Inv-loop2 μ-loop2
 add-outside-3 c = omega arith
 
 outside-requires-4 : tie.Need-outside-requires-4 Inv-loop μ-loop Inv-loop2 μ-loop2
-outside-requires-4 c κs = boxed (c .before .before .before .before .before .before .before .before .before) _ (omega arith)
+outside-requires-4 c κs = going (c .before .before .before .before .before .before .before .before .before) _ (omega arith)
 
 add-result-3 : tie.Need-add-result-3 Inv-loop μ-loop Inv-loop2 μ-loop2
 add-result-3 c = omega arith
@@ -111,7 +108,7 @@ loop2-holds : tie.Need-loop2-holds Inv-loop μ-loop Inv-loop2 μ-loop2
 loop2-holds c = c .before .loop .inv
 
 outside-requires-5 : tie.Need-outside-requires-5 Inv-loop μ-loop Inv-loop2 μ-loop2
-outside-requires-5 c κs = boxed (c .before .before .before .before .before) _ (omega arith)
+outside-requires-5 c κs = going (c .before .before .before .before .before) _ (omega arith)
 
 returns-5 : tie.Need-returns-5 Inv-loop μ-loop Inv-loop2 μ-loop2
 returns-5 c = c .before .before .before .loop2 .inv

@@ -1,0 +1,25 @@
+-- `framing::frame_around` meets its contract. Assumes nothing.
+use native.Mathlib.Omega.{arith}
+use mir.Facts.{toZ-ofZ}
+use Rattle.framing.proofs.Frames.{span-plain, lat-fits, lon-fits, frame-encloses}
+use Rattle.framing.proofs.frame_around.Statement.{statement}
+use Rattle.framing.proofs.frame_around.Tie as tie
+
+box-around-requires : tie.Need-box-around-requires
+box-around-requires c κs = c .pre
+
+centred-requires : tie.Need-centred-requires
+centred-requires c κs = c .before .box-around .ensures .fair .up
+
+longitudes-near-requires : tie.Need-longitudes-near-requires
+longitudes-near-requires c κs = let f = c .before .before .before .box-around .ensures .fair in rw (toZ-ofZ (lon-fits f)) (f .middle .east, f .across)
+
+returns : tie.Need-returns
+returns c =
+    let m = c .before .before in
+    let b = m .before .before .box-around .ensures in
+    let f = b .fair in
+    frame-encloses b (span-plain (omega (arith, f .middle .north)) (f .up) (simp (toZ-ofZ (lat-fits f)) at (m .centred .ensures))) (simp (toZ-ofZ (lon-fits f)) at (c .longitudes-near .ensures))
+
+pub frame-around-spec : {M : Type 1} → statement M
+frame-around-spec = tie.close (tie.spec box-around-requires centred-requires longitudes-near-requires returns)
