@@ -1,6 +1,7 @@
 /* ask: asks Check and Reason for one channel and Arrange for all of 221 to 300 through libfms.a, and prints what the
    programs fm_check, fm_reason and fm_arrange print, or fm_study for the first and the last with a station left aside.
-   After a reason stands the blocking station's own record in the table.
+   After a reason stands the blocking station's own record in the table, and the limit of the two classes in the reason's
+   column.
 
        ask TABLE CHANNEL CLASS ZONE LATITUDE LONGITUDE [ASIDE]
 
@@ -14,8 +15,8 @@
 #include <stdio.h>
 #include <stdlib.h>
 
-#if FMS_INTERFACE != 4
-#error "ask.c is written for interface 4 of fms.h"
+#if FMS_INTERFACE != 5
+#error "ask.c is written for interface 5 of fms.h"
 #endif
 
 /* One byte more than the longest table, so that a longer file is seen to be too long. */
@@ -37,8 +38,8 @@ static void print_rows(const uint32_t *rows, size_t count)
         printf("%lu %lu %lu\n", (unsigned long)rows[i], (unsigned long)rows[i + 1], (unsigned long)rows[i + 2]);
 }
 
-/* Prints the four numbers of a reason, and the sixteen bytes of its station. */
-static void print_reason(const uint32_t *reason, const uint8_t *station)
+/* Prints the four numbers of a reason, the sixteen bytes of its station, and the limit that a class keeps from it. */
+static void print_reason(const uint32_t *reason, const uint8_t *station, uint32_t station_class)
 {
     size_t i;
     printf("%lu %lu %lu %lu\n", (unsigned long)reason[0], (unsigned long)reason[1], (unsigned long)reason[2],
@@ -46,7 +47,7 @@ static void print_reason(const uint32_t *reason, const uint8_t *station)
     printf("record");
     for (i = 0; i < 16; i++)
         printf(" %02x", (unsigned)station[i]);
-    printf("\n");
+    printf("\nlimit %llu\n", (unsigned long long)fms_limit(station_class, station[6], reason[3]));
 }
 
 /* Reads a whole number from low to high; ends on any other word. */
@@ -104,7 +105,7 @@ int main(int words, char **word)
     if (fms_value(answer) == 0)
         printf("clear\n");
     else
-        print_reason(reason, table + fms_value(answer));
+        print_reason(reason, table + fms_value(answer), station_class);
 
     /* Arrange, first with no room: refusal 22 says exactly how much is needed. */
     answer = fms_arrange(table, length, 221, 300, station_class, zone, lat, lon, aside, &none, 0);

@@ -4,7 +4,7 @@
    granted. Its low half is then the count written, in bytes for an image and in 32-bit numbers for a list, or the count
    of stations (fms_read), or the distance in km (fms_distance), or the byte of the table at which the blocking station
    begins, 0 for clear (fms_reason); with a refusal it is that refusal's extra number. fms_number and fms_value take an
-   answer apart.
+   answer apart. fms_limit alone asks nothing that can be refused, and gives its number whole.
 
    What callers owe, since C cannot be asked to prove it:
    - a pointer is not null, is aligned for what it points to, and is good for its length: that many elements may be read,
@@ -31,7 +31,7 @@
 
 /* The number of this interface. A new function raises it, and so does a change of what one takes: other words, or tables
    of a further version, on which an answer may need more room. */
-#define FMS_INTERFACE 4
+#define FMS_INTERFACE 5
 
 #ifdef __cplusplus
 extern "C" {
@@ -153,6 +153,12 @@ uint64_t fms_reason(const uint8_t *table, size_t table_len, uint32_t channel, ui
    where nothing moves. Ascending by new channel, then id, then moved channel. */
 uint64_t fms_arrange(const uint8_t *table, size_t table_len, uint32_t first, uint32_t last, uint32_t station_class,
                      uint32_t zone, int32_t lat, int32_t lon, uint32_t aside, uint32_t *rows, size_t rows_len);
+
+/* The limit of two classes, in either order, in a column of Table A (enum fms_column): the square of 10,000 R - 5,000
+   decimetres, where R is their separation in km. Two stations whose channel difference reads that column, not both at or
+   below channel 220, are short exactly when the square of their distance in decimetres is below it, which is when the
+   rounded distance is below R. 0 where a class is over 7 or the column over 3. */
+uint64_t fms_limit(uint32_t class_one, uint32_t class_other, uint32_t column);
 
 #ifdef __cplusplus
 }

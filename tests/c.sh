@@ -49,13 +49,13 @@ ASKS
 }
 
 # As many stations as a table holds, and whether a program answers on it: all are short, their lines end with the last, the
-# reason follows with its record, and 78 free channels.
+# reason follows with its record and its limit, and 78 free channels.
 sh "$root/tests/crowd.sh" 2 4000 >"$room/full.fms"
 answers_full() { # PROGRAM
     [ "$("$1" "$room/full.fms" 254 0 3 0 0 | sed -n '1p;4001p;4002p;$=')" = 'short 4000
 4000 2 10
 1 0 10 3
-4081' ]
+4082' ]
 }
 
 # Compiles ask.c with a compiler's words, and holds what it prints.

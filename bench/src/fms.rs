@@ -1,4 +1,4 @@
-//! The proved library: its eight functions for C, asked with slices.
+//! The proved library, its nine functions for C: the eight questions, asked with slices, and the limit.
 
 use crate::question::{Answer, Lent, Question};
 
@@ -68,6 +68,7 @@ extern "C" {
         aside: u32,
         reason: *mut u32,
     ) -> u64;
+    fn fms_limit(a: u32, b: u32, column: u32) -> u64;
 }
 
 /// Any question.
@@ -158,4 +159,10 @@ pub fn ask(question: &Question, table: &[u8], lent: Lent) -> Answer {
         }
     };
     Answer::of(word)
+}
+
+/// The limit that S is held to for two classes in any order, at a column; 0 where there is no such class or column.
+pub fn limit(a: u32, b: u32, column: u32) -> u64 {
+    // SAFETY: it takes numbers alone, and nothing is owed of them.
+    unsafe { fms_limit(a, b, column) }
 }

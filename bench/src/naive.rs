@@ -1,4 +1,4 @@
-//! The eight questions as the paper says them, in the plainest words and wide numbers.
+//! The eight questions, and the limit, as the papers say them, in the plainest words and wide numbers.
 
 use crate::question::{Answer, Lent, Proposal, Question};
 use std::cmp::Reverse;
@@ -89,6 +89,16 @@ pub fn km(a: u32, b: u32, column: usize) -> u32 {
         }
     }
     unreachable!("every pair of classes stands in Table A")
+}
+
+/// The limit that S is held to for two classes in any order, at a column: (10,000 R - 5,000)², in square decimetres; 0 where there
+/// is no such class or column.
+pub fn limit(a: u32, b: u32, column: u32) -> u64 {
+    if a > 7 || b > 7 || column > 3 {
+        return 0;
+    }
+    let decimetres = 10_000 * i128::from(km(a, b, column as usize)) - 5_000;
+    (decimetres * decimetres) as u64
 }
 
 const E: i128 = 1_000_000_000;

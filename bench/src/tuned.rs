@@ -1,6 +1,6 @@
-//! The eight questions tuned by hand for few instructions, in safe Rust. Far records are passed over by one subtraction and one
-//! comparison: by their latitude alone, or, with `BOX`, by a box of latitudes and longitudes around the site, also where it lies
-//! across the 180th meridian. Records are judged and passed over one a turn, and with `BOX` four.
+//! The eight questions, and the limit, tuned by hand for few instructions, in safe Rust. Far records are passed over by one
+//! subtraction and one comparison: by their latitude alone, or, with `BOX`, by a box of latitudes and longitudes around the site,
+//! also where it lies across the 180th meridian. Records are judged and passed over one a turn, and with `BOX` four.
 
 use crate::question::{Answer, Lent, Proposal, Question};
 
@@ -107,6 +107,15 @@ const fn limits() -> [Limits; 8] {
         }
     }
     table
+}
+
+/// The square that S is held against for two classes in any order, at a column; 0 where there is no such class or column.
+pub fn limit(a: u32, b: u32, column: u32) -> u64 {
+    LIMITS
+        .get(a as usize)
+        .and_then(|limits| limits.get(b as usize))
+        .and_then(|columns| columns.get(column as usize))
+        .map_or(0, |limit| limit.squared)
 }
 
 /// Channels 221 to 300 as bits 0 to 79.

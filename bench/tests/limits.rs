@@ -1,4 +1,5 @@
-//! Sites at which a separation is just kept and just missed, and those at which one unit of P or Q decides.
+//! The limits that S is held to; sites at which a separation is just kept and just missed, and those at which one unit of P or Q
+//! decides.
 
 mod common;
 
@@ -6,6 +7,7 @@ use common::{agree_in, table_of_one, zone_for};
 use fms_bench::made::{column_of, wrapped, DIFFERENCES};
 use fms_bench::naive::{cosines, degrees, km, rounded, squared};
 use fms_bench::question::{Answer, Proposal, Question};
+use fms_bench::{fms, naive, tuned};
 use std::collections::BTreeMap;
 
 const E: i128 = 1_000_000_000;
@@ -24,6 +26,92 @@ fn separations() -> BTreeMap<u32, (u32, u32, usize)> {
         }
     }
     found
+}
+
+/// Who tells a limit: of two classes and a column.
+type Tell = fn(u32, u32, u32) -> u64;
+
+/// All of them.
+const TELLERS: [(&str, Tell); 3] = [
+    ("product", fms::limit),
+    ("naive", naive::limit),
+    ("tuned", tuned::limit),
+];
+
+/// Numbers for a class or a column: 0 to 9, and large ones that are a class or a column if they are cut to fewer bits.
+fn numbers() -> Vec<u32> {
+    let large = (4..32).flat_map(|bit| [0, 3, 7, 8].map(|low| (1 << bit) + low));
+    let largest = [7, 3, 0].map(|less| u32::MAX - less);
+    (0..=9).chain(large).chain(largest).collect()
+}
+
+/// All tell one limit for any three numbers: 0 where one is no class or no column, and there alone.
+#[test]
+fn limits_of_any_numbers() {
+    let numbers = numbers();
+    for &a in &numbers {
+        for &b in &numbers {
+            for &column in &numbers {
+                let expected = naive::limit(a, b, column);
+                assert_eq!(expected == 0, a > 7 || b > 7 || column > 3);
+                for (who, limit) in TELLERS {
+                    let found = limit(a, b, column);
+                    assert_eq!(found, expected, "{who}: {a} to {b}, column {column}");
+                }
+            }
+        }
+    }
+}
+
+/// The limit is the same in either order of the classes.
+#[test]
+fn limits_in_either_order() {
+    for (who, limit) in TELLERS {
+        for a in 0..=9 {
+            for b in 0..a {
+                for column in 0..=5 {
+                    let [there, back] = [limit(a, b, column), limit(b, a, column)];
+                    assert_eq!(there, back, "{who}: {a} to {b}, column {column}");
+                }
+            }
+        }
+    }
+}
+
+/// Limits by hand. A to A: 115 km, 1,145,000²; 10 km, 95,000². A to B1: 143 km, 1,425,000². C0 to C: 220 km, 2,195,000². C to C:
+/// 290 km, 2,895,000²; 48 km, 475,000².
+#[test]
+fn limits_by_hand() {
+    for (a, b, column, expected) in [
+        (0, 0, 0, 1_311_025_000_000),
+        (0, 0, 3, 9_025_000_000),
+        (0, 1, 0, 2_030_625_000_000),
+        (6, 7, 1, 4_818_025_000_000),
+        (7, 7, 0, 8_381_025_000_000),
+        (7, 7, 3, 225_625_000_000),
+    ] {
+        for (who, limit) in TELLERS {
+            let found = [limit(a, b, column), limit(b, a, column)];
+            assert_eq!(found, [expected; 2], "{who}: {a} to {b}, column {column}");
+        }
+    }
+}
+
+/// S just below the limit rounds to a D below R, and S at the limit to R.
+#[test]
+fn limits_and_distances() {
+    for (who, limit) in TELLERS {
+        for a in 0..8 {
+            for b in 0..8 {
+                for column in 0..4 {
+                    let s = i128::from(limit(a, b, column as u32));
+                    let r = km(a, b, column);
+                    let found = [rounded(s - 1), rounded(s)];
+                    assert_eq!(found, [r - 1, r], "{who}: {a} to {b}, column {column}");
+                }
+            }
+        }
+    }
 }
 
 /// Two sites.
@@ -50,8 +138,12 @@ impl Sites {
         })
     }
 
+    fn squared(&self) -> i128 {
+        squared(self.lat1, self.lon1, self.lat2, self.lon2)
+    }
+
     fn kilometres(&self) -> u32 {
-        rounded(squared(self.lat1, self.lon1, self.lat2, self.lon2))
+        rounded(self.squared())
     }
 
     /// The same sites south of the equator.
@@ -84,7 +176,7 @@ impl Sites {
     }
 
     /// Holds Check, the reason, Arrange and Add for two classes, and the distance, against the naive desk, from either site; says
-    /// whether they are short.
+    /// whether they are short, which they are where S is below the limit.
     fn held(&self, a: u32, b: u32, difference: u32) -> bool {
         let mut verdicts = Vec::new();
         let column = column_of(difference);
@@ -126,7 +218,11 @@ impl Sites {
             assert!(!check(7));
             verdicts.push(check(0));
         }
-        assert!(verdicts.iter().all(|&verdict| verdict == verdicts[0]));
+        let short = self.squared() < i128::from(fms::limit(a, b, column as u32));
+        assert_eq!(
+            verdicts, [short; 3],
+            "{self:?}: {a} to {b}, column {column}"
+        );
         let Sites {
             lat1,
             lon1,
@@ -155,7 +251,7 @@ impl Sites {
             0,
             0,
         );
-        verdicts[0]
+        short
     }
 }
 

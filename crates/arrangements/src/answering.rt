@@ -31,10 +31,11 @@ fn list_with(
     requires { ⌜ Flagged (now table) place channels (now moves) ⌝ }
     ensures { λ r. ⌜ Answered (grant (rowsFor (sited place) (channels .first) (channels .last) (studied terms (stations (now (table .entry)))))) (now (rows .entry)) (now (rows .exit)) r ⌝ }
 {
-    let limits = spacing::limits_of(place);
+    let squares = squares::by_table_a();
+    let limits = spacing::limits_by(&squares, place);
     let mut marks = [0u16; CHANNEL_COUNT];
     survey::survey(table, terms, place, &limits, channels, &mut marks);
-    planning::plan(table, terms, place, &limits, channels, &marks, moves);
+    planning::plan(table, terms, place, &squares, channels, &marks, moves);
     listing::list_if_room(table, channels, &marks, moves, rows)
 }
 

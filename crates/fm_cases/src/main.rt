@@ -1,5 +1,6 @@
 // Both implementations on the paper's cases and on many made ones; the first difference is shown, and ends the program.
 mod given;
+mod limits;
 mod made;
 mod paper;
 
@@ -9,6 +10,7 @@ use cases::SEED;
 use cases::TABLE_BYTES;
 use cases::run_of;
 use given::given_cases;
+use limits::limits_alike;
 use made::run_cases;
 use paper::paper_cases;
 use tally::Notes;
@@ -47,6 +49,10 @@ fn all_cases(notes: &mut Notes) -> bool {
         return false;
     }
     io::write_all(1, b"the paper's cases are as the paper has them\n");
+    if !limits_alike() {
+        return false;
+    }
+    io::write_all(1, b"the limits of all classes and columns are alike\n");
     made_cases(notes)
 }
 

@@ -1,6 +1,8 @@
 // The questions for other languages: what include/fms.h declares.
 ghost use mathlib.Core.Path.{_≡_};
 ghost use Prim.Native.Nat.{_/_, _%_};
+ghost use Rattle.part73.specs.TableA.{tableA};
+ghost use Rattle.squares.specs.Squares.{limitFor};
 ghost use Rattle.desk.specs.Questions.{readOf, distanceOf};
 ghost use Rattle.changes.specs.Changes.{add as adding, withdraw as withdrawing, move as moving, changedFor};
 ghost use Rattle.fms.specs.Packed.{Says, Packed, newcomer as asked, proposal, wanted};
@@ -202,4 +204,12 @@ pub extern "C" fn fms_reason(
     put_why(why, reason);
     let a = locate(table, why);
     pack(a)
+}
+
+// The limit that S is held to for two classes in any order, at a column; 0 where there is none.
+#[no_mangle]
+pub extern "C" fn fms_limit(a: u32, b: u32, column: u32) -> u64
+    ensures { λ r. ⌜ r ≡ limitFor tableA a b column ⌝ }
+{
+    squares::limit_for(a, b, column)
 }

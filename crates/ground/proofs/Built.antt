@@ -1,10 +1,10 @@
--- A list of a function's first n values: its length, and what is left of it from an index on.
+-- A list of a function's first n values: its length, the one at an index, and what is left of it from an index on.
 -- Assumes nothing.
 use mathlib.Core.Path.{_≡_, refl, ap}
 use mathlib.Core.List.{_∷_}
 use Prim.Native.Nat.{ℕ, zero, suc, _<_}
 use native.Mathlib.Nat.{le-of-suc-le-suc, not-suc-le-zero}
-use lib.ListN.{length, drop}
+use lib.ListN.{length, getD, drop}
 use Rattle.ground.specs.Lists.{build}
 
 module _ {A : Type 0} where
@@ -12,6 +12,12 @@ module _ {A : Type 0} where
   unfolding build
   length-build zero f = refl
   length-build (suc n) f = ap suc (length-build n (λ i. f (suc i)))
+
+  pub getD-build : (n : ℕ) (f : ℕ → A) (i : ℕ) (d : A) → i < n → getD (build n f) i d ≡ f i
+  unfolding build
+  getD-build zero f i d h = absurd (not-suc-le-zero h)
+  getD-build (suc n) f zero d h = refl
+  getD-build (suc n) f (suc i) d h = getD-build n (λ i. f (suc i)) i d (le-of-suc-le-suc h)
 
   pub drop-build : (n : ℕ) (f : ℕ → A) (i : ℕ) → i < n → drop i (build n f) ≡ f i ∷ drop (suc i) (build n f)
   unfolding build

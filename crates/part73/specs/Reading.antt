@@ -1,7 +1,7 @@
 -- Inside: where the code's table has the separations of two classes. Assumes nothing.
 use mathlib.Core.Path.{_≡_}
 use mathlib.Core.List.{List, [], map}
-use Prim.Native.Nat.{ℕ, _/_, _%_, _<_}
+use Prim.Native.Nat.{ℕ, _<_}
 use lib.ListN.{getD}
 use Rattle.part73.specs.TableA.{columns, relations, tableA}
 
@@ -15,6 +15,6 @@ pub record RowOf (a b r : ℕ) : Type 0 where
   pub within : r < 36
   pub at : (c : ℕ) → c < 4 → getD (getD rows r []) c 0 ≡ tableA a b c
 
--- the four separations of the class a against each class, one class after the other
-pub record Against (a : ℕ) (out : List ℕ) : Type 0 where
-  pub at : (k : ℕ) → k < 32 → getD out k 0 ≡ tableA a (k / 4) (k % 4)
+-- the co-channel separations of the class a against each class, by a table of separations
+pub record CoChannel (km : ℕ → ℕ → ℕ → ℕ) (a : ℕ) (out : List ℕ) : Type 0 where
+  pub at : (b : ℕ) → b < 8 → getD out b 0 ≡ km a b 0

@@ -4,7 +4,7 @@ ghost use Prim.Native.Nat.{_≤_, _<_};
 ghost use Rattle.part73.specs.Classes.{isClass, isZone, permits};
 ghost use Rattle.part73.specs.Columns.{gap, column};
 ghost use Rattle.part73.specs.TableA.{tableA};
-ghost use Rattle.part73.specs.Reading.{rows, RowOf, Against};
+ghost use Rattle.part73.specs.Reading.{rows, RowOf, CoChannel};
 
 // The channels that a new or a moved station may have.
 pub const LOWEST: usize = 221;
@@ -92,20 +92,19 @@ pub fn separation(a: usize, b: usize, column: usize) -> u16
     table[row][column]
 }
 
-// The four separations of a class against each of the eight, one class after the other. A constant is made anew wherever
-// it is named, so a pass reads this once and not the table at each pair.
-pub fn separations_of(class: usize) -> [u16; 32]
+// The co-channel separations of a class against each of the eight. A constant is made anew wherever it is named, so a pass reads
+// this once and not the table at each pair.
+pub fn co_channel_of(class: usize) -> [u16; 8]
     requires { ⌜ class < 8 ⌝ }
-    ensures { λ r. ⌜ Against class r ⌝ }
+    ensures { λ r. ⌜ CoChannel tableA class r ⌝ }
 {
     let table = table_rows();
-    let mut out = [0u16; 32];
-    let mut k: usize = 0;
-    while k < 32 {
-        let row = row_of(class, k / 4);
-        let column = k % 4;
-        out[k] = table[row][column];
-        k += 1;
+    let mut out = [0u16; 8];
+    let mut b: usize = 0;
+    while b < 8 {
+        let row = row_of(class, b);
+        out[b] = table[row][0];
+        b += 1;
     }
     out
 }

@@ -1,13 +1,15 @@
 -- Inside: what the functions of this crate, and of those that go by its marks and flags, ask. Assumes nothing.
+use mathlib.Core.Path.{_≡_}
 use Prim.Native.Nat.{ℕ, _≤_, _<_}
 use mathlib.Core.Bool.{Bool}
 use mathlib.Core.List.{List}
 use Rattle.part73.specs.TableA.{tableA}
+use Rattle.squares.specs.Squares.{squaredLimits}
+use Rattle.spacing.specs.Reaching.{InRange}
 use Rattle.spacing.specs.declared.Place.{Place}
 use Rattle.stations.specs.Image.{count, Accepted}
 use Rattle.survey.specs.Ways.{looked}
 use Rattle.marking.specs.Marks.{Asked, Marked}
-use Rattle.survey.specs.Walking.{Walk}
 use Rattle.marking.specs.declared.Channels.{Channels}
 use Rattle.survey.specs.declared.Terms.{Terms}
 use Rattle.planning.specs.Scene.{sceneOf}
@@ -24,21 +26,24 @@ pub record Single (n mark : ℕ) : Type 0 where
   pub some : 0 < mark
   pub within : mark ≤ n
 
--- the marks from the site of one station, where those of another are kept
-pub record Resurvey (s : List ℕ) (t : Terms) (mark whose : ℕ) (kept : List ℕ) : Type 0 where
-  pub accepted : Accepted s
-  pub single : Single (count s) mark
-  pub held : Kept tableA (looked t) s whose kept
+-- what is known of the station that v marks, with the marks from its site
+pub record Known (s : List ℕ) (t : Terms) (p : Place) (v : ℕ) (b : Blocker) (marks : List ℕ) : Type 0 where
+  pub met : Meets tableA s p v b
+  pub held : Kept tableA (looked t) s v marks
 
--- what is known of one station, where that of another is kept
-pub record Meeting (s : List ℕ) (p : Place) (limits : List ℕ) (mark : ℕ) (kept : Blocker) : Type 0 where
-  pub walk : Walk s p limits
+-- the same of one station, where that of another is kept
+pub record Meeting (s : List ℕ) (t : Terms) (p : Place) (squares : List (List (List ℕ))) (mark : ℕ) (kept : Blocker) (marks : List ℕ) : Type 0 where
+  pub accepted : Accepted s
+  pub placed : InRange p
+  pub squared : squares ≡ squaredLimits tableA
   pub single : Single (count s) mark
-  pub held : Meets tableA s p (kept .mark) kept
+  pub known : Known s t p (kept .mark) kept marks
 
 -- the rows of new channels, by their marks
-pub record Planning (s : List ℕ) (t : Terms) (p : Place) (limits : List ℕ) (channels : Channels) (marks : List ℕ) (moves : List Bool) : Type 0 where
-  pub walk : Walk s p limits
+pub record Planning (s : List ℕ) (t : Terms) (p : Place) (squares : List (List (List ℕ))) (channels : Channels) (marks : List ℕ) (moves : List Bool) : Type 0 where
+  pub accepted : Accepted s
+  pub placed : InRange p
+  pub squared : squares ≡ squaredLimits tableA
   pub asked : Asked channels
   pub marked : Marked (sceneOf s t p .new) (channels .first) (channels .last) (count s) marks
   pub down : Down (channels .first) (channels .first) moves

@@ -6,20 +6,18 @@ ghost use lib.Dec.{eqb};
 ghost use lib.ListN.{length};
 ghost use Rattle.part73.specs.Channels.{channelCount};
 ghost use Rattle.part73.specs.Columns.{gap};
-ghost use Rattle.part73.specs.TableA.{tableA};
 ghost use Rattle.spacing.specs.Reaching.{hits};
-ghost use Rattle.survey.specs.Ways.{looked};
 ghost use Rattle.planning.specs.Scene.{sceneOf};
-ghost use Rattle.planning.specs.Flags.{mayMove, Kept, Meets, goes, goesFrom, Rowed, Planned};
-ghost use Rattle.planning.specs.Planning.{Surveyed, Resurvey, Meeting, Planning};
+ghost use Rattle.planning.specs.Flags.{mayMove, goes, goesFrom, Rowed, Planned};
+ghost use Rattle.planning.specs.Planning.{Surveyed, Known, Meeting, Planning};
 use marking::Channels;
 use marking::MANY;
 use part73::CHANNEL_COUNT;
 use part73::HIGHEST;
 use part73::LOWEST;
-use spacing::Limits;
 use spacing::Place;
 use spacing::Reach;
+use squares::Squares;
 use survey::Terms;
 
 // The station that a mark is of: its channel, and how far it and the new station reach.
@@ -86,28 +84,18 @@ fn may_move(table: &[u8], mark: u16) -> bool
     stations::is_movable(r)
 }
 
-// The marks from the site of the station that `mark` marks, unless they are those that are kept.
-fn survey_from(table: &[u8], terms: Terms, mark: u16, whose: u16, kept: &mut [u16; CHANNEL_COUNT])
-    requires { ⌜ Resurvey (now table) terms mark whose (now kept) ⌝ }
-    ensures { λ _. ⌜ Kept tableA (looked terms) (now (table .entry)) mark (now (kept .exit)) ⌝ }
-{
-    if mark == whose {
-        return;
-    }
-    let r = stations::station_at(table, mark as usize - 1);
-    let place = survey::place_of(r);
-    let limits = spacing::limits_of(place);
-    let channels = Channels {
-        first: LOWEST,
-        last: HIGHEST,
-    };
-    survey::survey(table, terms, place, &limits, channels, kept)
-}
-
-// The station that `mark` marks, unless it is the one that is kept.
-fn blocker_at(table: &[u8], place: Place, limits: &Limits, mark: u16, kept: Blocker) -> Blocker
-    requires { ⌜ Meeting (now table) place (now limits) mark kept ⌝ }
-    ensures { λ r. ⌜ Meets tableA (now (table .entry)) place mark r ⌝ }
+// The station that `mark` marks, with the marks from its site, unless it is the one that is kept.
+fn blocker_at(
+    table: &[u8],
+    terms: Terms,
+    place: Place,
+    squares: &Squares,
+    mark: u16,
+    kept: Blocker,
+    marks: &mut [u16; CHANNEL_COUNT],
+) -> Blocker
+    requires { ⌜ Meeting (now table) terms place (now squares) mark kept (now marks) ⌝ }
+    ensures { λ r. ⌜ Known (now (table .entry)) terms place mark r (now (marks .exit)) ⌝ }
 {
     if mark == kept.mark {
         return kept;
@@ -115,7 +103,13 @@ fn blocker_at(table: &[u8], place: Place, limits: &Limits, mark: u16, kept: Bloc
     let r = stations::station_at(table, mark as usize - 1);
     let own = r.channel as usize;
     let theirs = survey::place_of(r);
-    let reach = spacing::reach_of(place, limits, theirs);
+    let limits = spacing::limits_by(squares, theirs);
+    let channels = Channels {
+        first: LOWEST,
+        last: HIGHEST,
+    };
+    survey::survey(table, terms, theirs, &limits, channels, marks);
+    let reach = spacing::reach_of(theirs, &limits, place);
     Blocker { mark, own, reach }
 }
 
@@ -125,12 +119,12 @@ pub fn plan(
     table: &[u8],
     terms: Terms,
     place: Place,
-    limits: &Limits,
+    squares: &Squares,
     channels: Channels,
     marks: &[u16; CHANNEL_COUNT],
     moves: &mut [bool],
 )
-    requires { ⌜ Planning (now table) terms place (now limits) channels (now marks) (now moves) ⌝ }
+    requires { ⌜ Planning (now table) terms place (now squares) channels (now marks) (now moves) ⌝ }
     ensures { λ _. ⌜ Planned (sceneOf (now (table .entry)) terms place) (channels .first) (suc (channels .last)) (now (moves .exit)) ⌝ }
 {
     let first = channels.first;
@@ -149,8 +143,7 @@ pub fn plan(
         let k = c - LOWEST;
         let mark = marks[k];
         if may_move(table, mark) {
-            survey_from(table, terms, mark, blocker.mark, &mut kept);
-            blocker = blocker_at(table, place, limits, mark, blocker);
+            blocker = blocker_at(table, terms, place, squares, mark, blocker, &mut kept);
             let a = CHANNEL_COUNT * (c - first);
             let b = a + CHANNEL_COUNT;
             fill_row(&kept, blocker, c, &mut moves[a..b]);

@@ -8,4 +8,5 @@ pub use sites::LATITUDES;
 pub use sites::LONGITUDES;
 pub use sites::kilometres;
 pub use table_a::column;
+pub use table_a::limit;
 pub use table_a::separation;

@@ -125,6 +125,17 @@ fn unit_of(column: u64) -> u64 {
     }
 }
 
+// R of two classes in a column, 0 past the columns.
+fn separation_in(class1: u64, class2: u64, column: u64) -> u64
+    ensures { λ r. ⌜ r < 1000 ⌝ }
+{
+    let unit = unit_of(column);
+    if unit == 0 {
+        return 0;
+    }
+    relation(class1, class2) / unit % 1_000
+}
+
 // R of two channels and two classes, 0 where there is no requirement.
 pub fn separation(channel1: u64, class1: u64, channel2: u64, class2: u64) -> u64
     ensures { λ r. ⌜ r < 1000 ⌝ }
@@ -134,9 +145,22 @@ pub fn separation(channel1: u64, class1: u64, channel2: u64, class2: u64) -> u64
             return 0;
         }
     }
-    let unit = unit_of(column(channel1, channel2));
-    if unit == 0 {
+    separation_in(class1, class2, column(channel1, channel2))
+}
+
+// The square that S is held to for two classes at a column: R less half a km, in half kilometres, squared, and these of 5,000
+// decimetres; 0 where there is no such class or column.
+pub fn limit(class1: u64, class2: u64, column: u64) -> u64 {
+    if 8 <= class1 {
         return 0;
     }
-    relation(class1, class2) / unit % 1_000
+    if 8 <= class2 {
+        return 0;
+    }
+    let r = separation_in(class1, class2, column);
+    if r == 0 {
+        return 0;
+    }
+    let halves = 2 * r - 1;
+    halves * halves * 25_000_000
 }

@@ -10,7 +10,8 @@ use lib.Dec.{lit<}
 use lib.ListN.{getD}
 use Rattle.distance.specs.Distance.{S, latGap, lonGap}
 use Rattle.part73.specs.Separations.{Separations}
-use Rattle.spacing.specs.Limits.{limitOf, northOf, eastOf, northAt, eastAt, LimitsAt}
+use Rattle.squares.specs.Squares.{limitOf}
+use Rattle.spacing.specs.Limits.{northOf, eastOf, northAt, eastAt, LimitsAt}
 use Rattle.spacing.specs.Reaching.{InRange, Beyond, Seconds, Surrounds}
 use Rattle.spacing.specs.declared.Around.{Around}
 use Rattle.spacing.specs.declared.Place.{Place}

@@ -1,7 +1,7 @@
 -- What the pair rule means: a pair is short exactly as the owner words it, in either order, and on the 180th meridian by either
 -- longitude; no pair at or below 220, and none at another difference than 0, 1, 2, 3, 53 and 54, is short. Over any table of
 -- separations. Assumes nothing.
-use mathlib.Core.Path.{_≡_, refl, sym, _∙_}
+use mathlib.Core.Path.{_≡_, refl, sym, ap, _∙_}
 use mathlib.Core.Logic.{_↔_, _⊎_, inl, inr}
 use mathlib.Core.Bool.{Bool, true, false, and-comm, true≢false}
 use Prim.Native.Nat.{ℕ, _-_, _≤_, _<_}
@@ -19,17 +19,24 @@ use Rattle.part73.specs.Columns.{gap, none}
 use Rattle.part73.specs.Separations.{Separations}
 use Rattle.part73.specs.TableA.{tableA}
 use Rattle.part73.proofs.Facts.{column-none, table-a}
-use Rattle.spacing.specs.Pair.{Assignment, assignment, exempt, columnFor, separation, squareOf, distanceOf, shortBy, short}
+use Rattle.spacing.specs.Pair.{Assignment, assignment, sited, exempt, columnFor, separation, squareOf, distanceOf, shortBy, short}
 use Rattle.spacing.specs.Meaning.{HeldShort}
+use Rattle.spacing.specs.Reaching.{hits, Reaches}
+use Rattle.spacing.specs.declared.Place.{Place}
+use Rattle.spacing.specs.declared.Reach.{Reach}
 use Rattle.spacing.proofs.Rule.{column-most, for-open, for-exempt, for-some, exempt-low, open-high, by-none}
 
 gap-swap : (x y : ℕ) → gap x y ≡ gap y x
 unfolding gap
 gap-swap x y = add-comm (x - y) (y - x)
 
+exempt-swap : (x y : ℕ) → exempt x y ≡ exempt y x
+unfolding exempt
+exempt-swap x y = and-comm (leb x 220) (leb y 220)
+
 column-swap : (x y : ℕ) → columnFor x y ≡ columnFor y x
-unfolding columnFor exempt
-column-swap x y = rw (and-comm (leb x 220) (leb y 220), gap-swap x y)
+unfolding columnFor
+column-swap x y = rw (exempt-swap x y, gap-swap x y)
 
 column-other : (x y : ℕ) → 3 < gap x y → (gap x y ≡ 53 → ⊥) → (gap x y ≡ 54 → ⊥) → columnFor x y ≡ none
 column-other x y h n m = go (exempt x y) refl
@@ -58,6 +65,10 @@ module _ {km : ℕ → ℕ → ℕ → ℕ} (table : Separations km) where
   unfolding shortBy separation distanceOf squareOf
   short-either p q =
       rw (S-sym (p .latitude) (p .longitude) (q .latitude) (q .longitude), column-swap (p .channel) (q .channel), table .either (p .class) (q .class) (columnFor (q .channel) (p .channel)))
+
+  pub reaches-either : {p q : Place} {r : Reach} → Reaches km p q r → Reaches km q p r
+  reaches-either {p} {q} {r} w =
+      record { most = w .most; tells = λ x y e. short-either (sited q x) (sited p y) ∙ (w .tells y x (exempt-swap y x ∙ e) ∙ ap (hits r) (gap-swap y x)) }
 
   module _ (p q : Assignment) (known : p .class < 8) (known′ : q .class < 8) where
     without : columnFor (p .channel) (q .channel) ≡ none → shortBy km p q ≡ false

@@ -14,7 +14,8 @@ use Rattle.part73.specs.Columns.{gap, column}
 use Rattle.part73.specs.Separations.{Separations}
 use Rattle.part73.proofs.Facts.{column-low, column-53, column-54, column-none}
 use Rattle.spacing.specs.Pair.{separation, squareOf, distanceOf, shortBy}
-use Rattle.spacing.specs.Limits.{limitOf, LimitsAt, squaresOf, Falling, Under}
+use Rattle.squares.specs.Squares.{limitOf}
+use Rattle.spacing.specs.Limits.{LimitsAt, squaresOf, Falling, Under}
 use Rattle.spacing.specs.Reaching.{InRange, hits, Reaches}
 use Rattle.spacing.specs.declared.Place.{Place}
 use Rattle.spacing.specs.declared.Reach.{Reach}

@@ -1,5 +1,5 @@
 -- The pair rule by the column of two channels and by squared limits, over any table of separations. Assumes nothing.
-use mathlib.Core.Path.{_≡_, refl, sym, _∙_}
+use mathlib.Core.Path.{_≡_, refl, sym, ap, _∙_}
 use mathlib.Core.Bool.{Bool, true, false, and-false}
 use mathlib.Core.Logic.{_⊎_, inl, inr}
 use Prim.Native.Nat.{ℕ, zero, suc, _-_, _*_, _^_, _≤_, _<_}
@@ -16,7 +16,8 @@ use Rattle.part73.specs.Columns.{gap, none, column}
 use Rattle.part73.specs.Separations.{Separations}
 use Rattle.part73.proofs.Facts.{column-low, column-53, column-54, column-none}
 use Rattle.spacing.specs.Pair.{sited, exempt, columnFor, separation, squareOf, distanceOf, shortBy}
-use Rattle.spacing.specs.Limits.{limitOf}
+use Rattle.squares.specs.Squares.{limitOf, limitFor}
+use Rattle.squares.proofs.Rule.{past-columns, within}
 use Rattle.spacing.specs.Reaching.{InRange}
 use Rattle.spacing.specs.declared.Place.{Place}
 
@@ -95,6 +96,19 @@ module _ {km : ℕ → ℕ → ℕ → ℕ} (table : Separations km) where
     pub at-limit : (x y : ℕ) → columnFor x y < 4 → ltb (S (p .latitude) (p .longitude) (q .latitude) (q .longitude)) (limitOf (km (p .class) (q .class) (columnFor x y))) ≡ shortBy km (sited p x) (sited q y)
     unfolding shortBy separation distanceOf squareOf
     at-limit x y h = sym (by-limit (p .class) (q .class) (mine .known) (their .known) _ (columnFor x y) (S-small p q mine their) h)
+
+    -- on any channels: short exactly when S is below the limit of the two classes at the column that applies, 0 where none does
+    pub compares : (x y : ℕ) → shortBy km (sited p x) (sited q y) ≡ ltb (S (p .latitude) (p .longitude) (q .latitude) (q .longitude)) (limitFor km (p .class) (q .class) (columnFor x y))
+    compares x y = go (ℕ-discrete (columnFor x y) none)
+      where
+        s : ℕ
+        s = S (p .latitude) (p .longitude) (q .latitude) (q .longitude)
+
+        go : Dec (columnFor x y ≡ none) → shortBy km (sited p x) (sited q y) ≡ ltb s (limitFor km (p .class) (q .class) (columnFor x y))
+        go (yes e) = no-column x y e ∙ (sym (le-ltb s 0 (omega arith)) ∙ ap (ltb s) (past-columns km (p .class) (q .class) (columnFor x y) (omega (arith, e))))
+        go (no n) =
+            let c = for-most x y n in
+            sym (at-limit x y c) ∙ ap (ltb s) (within km (p .class) (q .class) (columnFor x y) (mine .known) (their .known) c)
 
     -- two sites as far apart as the first limit
     pub far-clear : limitOf (km (p .class) (q .class) 0) ≤ S (p .latitude) (p .longitude) (q .latitude) (q .longitude) → (x y : ℕ) → shortBy km (sited p x) (sited q y) ≡ false

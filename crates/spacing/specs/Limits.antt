@@ -1,18 +1,15 @@
 -- Inside: the pair rule by squared limits, as the code goes by it. Assumes nothing.
 use mathlib.Core.Path.{_≡_}
 use mathlib.Core.List.{List}
-use Prim.Native.Nat.{ℕ, suc, _+_, _-_, _*_, _/_, _≤_, _<_}
+use Prim.Native.Nat.{ℕ, suc, _+_, _-_, _*_, _/_, _%_, _≤_, _<_}
 use lib.Dec.{ltb}
-use lib.ListN.{getD}
+use lib.ListN.{length, getD}
 use Rattle.ground.specs.Guard.{given}
 use Rattle.distance.specs.Bounds.{LeastScale}
 use Rattle.part73.specs.Columns.{column}
+use Rattle.squares.specs.Squares.{limitOf, entry}
 use Rattle.spacing.specs.declared.Place.{Place}
 use Rattle.spacing.specs.declared.Reach.{Reach}
-
--- the square of the least distance, in decimetres, that rounds to R km
-unfoldable pub limitOf : ℕ → ℕ
-limitOf r = (10000 * r - 5000) * (10000 * r - 5000)
 
 -- seconds of latitude that put two sites at least (10,000 R - 5,000) decimetres apart: no degree is shorter than 1,105,648,400
 unfoldable pub northOf : ℕ → ℕ
@@ -40,17 +37,26 @@ pub record LimitsAt (km : ℕ → ℕ → ℕ → ℕ) (p : Place) (limits : Lis
   pub least : LeastScale (p .latitude) scale
   pub east : (b : ℕ) → b < 8 → getD limits (eastAt b) 0 ≡ eastOf scale (km (p .class) b 0)
 
--- the place k of them, from the four separations of the class against each class
-unfoldable pub entryOf : List ℕ → ℕ → ℕ → ℕ
-entryOf separations scale k =
-    given (ltb k 32) (limitOf (getD separations k 0))
-    (given (ltb k 40) (northOf (getD separations (4 * (k - 32)) 0))
-    (eastOf scale (getD separations (4 * (k - 40)) 0)))
+-- the limits of a class so far as its row of the table of squares has them
+pub record FromRow (squares : List (List (List ℕ))) (class : ℕ) (out : List ℕ) : Type 0 where
+  pub long : length out ≡ 48
+  pub square : (k : ℕ) → k < 32 → getD out k 0 ≡ entry squares class (k / 4) (k % 4)
+
+-- the place k past them, from the co-channel separations of the class
+unfoldable pub secondsAt : List ℕ → ℕ → ℕ → ℕ
+secondsAt separations scale k = given (ltb k 40) (northOf (getD separations (k - 32) 0)) (eastOf scale (getD separations (k - 40) 0))
 
 -- separations of 1 to 290 km
 pub record InKm (separations : List ℕ) : Type 0 where
-  pub some : (k : ℕ) → k < 32 → 0 < getD separations k 0
-  pub most : (k : ℕ) → k < 32 → getD separations k 0 ≤ 290
+  pub some : (b : ℕ) → b < 8 → 0 < getD separations b 0
+  pub most : (b : ℕ) → b < 8 → getD separations b 0 ≤ 290
+
+-- what such a place asks
+pub record SecondsAsked (separations : List ℕ) (scale k : ℕ) : Type 0 where
+  pub in-km : InKm separations
+  pub some : 0 < scale
+  pub low : 32 ≤ k
+  pub high : k < 48
 
 -- the squares in the four columns against one class
 abbrev pub squaresOf : List ℕ → ℕ → ℕ → ℕ

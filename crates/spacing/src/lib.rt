@@ -11,6 +11,7 @@ mod limiting;
 mod surroundings;
 
 use limiting::east_in;
+pub use limiting::limits_by;
 pub use limiting::limits_of;
 use limiting::north_in;
 use limiting::square_in;

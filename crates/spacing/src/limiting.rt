@@ -4,10 +4,12 @@ ghost use mathlib.Core.Path.{_≡_};
 ghost use Prim.Native.Nat.{_≤_, _<_};
 ghost use lib.ListN.{getD};
 ghost use Rattle.part73.specs.TableA.{tableA};
-ghost use Rattle.spacing.specs.Limits.{limitOf, eastOf, entryOf, InKm, LimitsAt, squareAt, northAt, eastAt};
+ghost use Rattle.squares.specs.Squares.{squaredLimits};
+ghost use Rattle.spacing.specs.Limits.{eastOf, FromRow, SecondsAsked, secondsAt, LimitsAt, squareAt, northAt, eastAt};
 ghost use Rattle.spacing.specs.Reaching.{InRange};
 use crate::Limits;
 use crate::Place;
+use squares::Squares;
 
 const COLUMNS: usize = 4;
 
@@ -43,15 +45,6 @@ pub fn east_in(limits: &Limits, theirs: usize) -> u64
     limits[k]
 }
 
-// The square of the least distance, in decimetres, that rounds to r km.
-fn limit(r: u16) -> u64
-    requires { ⌜ (0 < r) × (r ≤ 290) ⌝ }
-    ensures { λ l. ⌜ l ≡ limitOf r ⌝ }
-{
-    let least = 10_000 * (r as u64) - 5_000;
-    least * least
-}
-
 // Seconds of a degree, of which none is shorter than `scale`, that make at least (10,000 r - 5,000) decimetres.
 fn seconds(r: u16, scale: u64) -> u64
     requires { ⌜ (0 < r) × ((r ≤ 290) × (0 < scale)) ⌝ }
@@ -60,35 +53,58 @@ fn seconds(r: u16, scale: u64) -> u64
     (10_000 * (r as u64) - 5_000) * 3_600_000 / scale + 1
 }
 
-// One place of the limits, from the separations of a class.
-fn entry(separations: &[u16; 32], scale: u64, k: usize) -> u64
-    requires { ⌜ (InKm (now separations)) × ((0 < scale) × (k < 48)) ⌝ }
-    ensures { λ r. ⌜ r ≡ entryOf (now (separations .entry)) scale k ⌝ }
+// The limits of a class so far as its row of the table has them; the places past these are still to be filled.
+fn from_row(squares: &Squares, class: usize) -> Limits
+    requires { ⌜ class < 8 ⌝ }
+    ensures { λ r. ⌜ FromRow (now (squares .entry)) class r ⌝ }
 {
-    if k < NORTH {
-        return limit(separations[k]);
+    let mut out = [0u64; END];
+    let mut k: usize = 0;
+    while k < NORTH {
+        let theirs = k / COLUMNS;
+        let column = k % COLUMNS;
+        out[k] = squares[class][theirs][column];
+        k += 1;
     }
-    if k < EAST {
-        let north = COLUMNS * (k - NORTH);
-        return seconds(separations[north], 1_105_648_400);
-    }
-    let east = COLUMNS * (k - EAST);
-    seconds(separations[east], scale)
+    out
 }
 
-pub fn limits_of(p: Place) -> Limits
-    requires { ⌜ InRange p ⌝ }
+// One of the places that the table does not have: the seconds against a class.
+fn seconds_at(separations: &[u16; 8], scale: u64, k: usize) -> u64
+    requires { ⌜ SecondsAsked (now separations) scale k ⌝ }
+    ensures { λ r. ⌜ r ≡ secondsAt (now (separations .entry)) scale k ⌝ }
+{
+    if k < EAST {
+        let theirs = k - NORTH;
+        return seconds(separations[theirs], 1_105_648_400);
+    }
+    let theirs = k - EAST;
+    seconds(separations[theirs], scale)
+}
+
+// The limits of a place by a table of squares that is lent.
+pub fn limits_by(squares: &Squares, p: Place) -> Limits
+    requires { ⌜ (now squares ≡ squaredLimits tableA) × (InRange p) ⌝ }
     ensures { λ r. ⌜ LimitsAt tableA p r ⌝ }
 {
     let class = p.class;
     let lat = p.latitude;
     let scale = distance::least_scale(lat);
-    let separations = part73::separations_of(class);
-    let mut out = [0u64; END];
-    let mut k: usize = 0;
+    let separations = part73::co_channel_of(class);
+    let mut out = from_row(squares, class);
+    let mut k: usize = NORTH;
     while k < END {
-        out[k] = entry(&separations, scale, k);
+        out[k] = seconds_at(&separations, scale, k);
         k += 1;
     }
     out
+}
+
+// The limits of a place, for a question that makes limits once.
+pub fn limits_of(p: Place) -> Limits
+    requires { ⌜ InRange p ⌝ }
+    ensures { λ r. ⌜ LimitsAt tableA p r ⌝ }
+{
+    let squares = squares::by_table_a();
+    limits_by(&squares, p)
 }

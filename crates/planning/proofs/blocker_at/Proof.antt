@@ -4,28 +4,38 @@ use Prim.Native.Nat.{ℕ, _-_, _<_}
 use native.Mathlib.Omega.{arith}
 use denote.Ref.{now}
 use borrow.Author.Needs.{needs}
-use Rattle.part73.specs.TableA.{tableA}
+use Rattle.part73.proofs.Facts.{table-a}
+use Rattle.spacing.specs.Reaching.{InRange}
+use Rattle.spacing.proofs.Meaning.{reaches-either}
 use Rattle.stations.specs.Image.{count}
 use Rattle.survey.specs.Ways.{placeOf}
 use Rattle.survey.proofs.Records.{known-at, room-at}
-use Rattle.planning.specs.Flags.{stationOf, Meets}
+use Rattle.planning.specs.Flags.{stationOf}
+use Rattle.planning.specs.Planning.{Known}
 use Rattle.planning.proofs.blocker_at.Statement.{statement}
 use Rattle.planning.proofs.blocker_at.Tie as tie
+
+returns : tie.Need-returns
+returns c = let s = c .before .before .before in subst (λ (v : ℕ). Known (now (s .args .table)) (s .args .terms) (s .args .place) v (s .args .kept) (now (s .args .marks))) (sym (c .if1 .taken)) (s .pre .known)
 
 inside : (s : tie.Start) → s .args .mark - 1 < count (now (s .args .table))
 inside s = omega (arith, s .pre .single)
 
-theirs : (c : tie.After-place-of) → let s = c .before .before .before .before .before .before in c .place-of .result ≡ placeOf (stationOf (now (s .args .table)) (s .args .mark))
-theirs c = c .place-of .ensures ∙ ap placeOf (c .before .before .station-at .ensures)
+module _ (c : tie.After-place-of) where
+  abbrev s : tie.Start
+  s = c .before .before .before .before .before .before
 
-returns : tie.Need-returns
-returns c = let s = c .before .before .before in subst (λ (v : ℕ). Meets tableA (now (s .args .table)) (s .args .place) v (s .args .kept)) (sym (c .if1 .taken)) (s .pre .held)
+  theirs : c .place-of .result ≡ placeOf (stationOf (now (s .args .table)) (s .args .mark))
+  theirs = c .place-of .ensures ∙ ap placeOf (c .before .before .station-at .ensures)
+
+  placed : InRange (c .place-of .result)
+  placed = rw theirs (known-at _ (s .pre .accepted) _ (inside s) .placed)
 
 sub-station-at : tie.Need-sub-station-at
 sub-station-at c = search needs
 
 station-at-requires : tie.Need-station-at-requires
-station-at-requires c κs = let s = c .before .before .before in room-at _ (s .pre .walk .accepted) _ (inside s)
+station-at-requires c κs = let s = c .before .before .before in room-at _ (s .pre .accepted) _ (inside s)
 
 cast-own : tie.Need-cast-own
 cast-own c = search needs
@@ -33,15 +43,34 @@ cast-own c = search needs
 place-of-requires : tie.Need-place-of-requires
 place-of-requires c κs = search needs
 
+limits-by-requires : tie.Need-limits-by-requires
+limits-by-requires c κs = (s c .pre .squared, placed c)
+
+survey-requires : tie.Need-survey-requires
+survey-requires c κs =
+    let l = c .before .before in
+    let p = l .before in
+    record {
+      walk = record { accepted = s p .pre .accepted; placed = placed p; held = l .limits-by .ensures };
+      asked = record { low = omega arith; some = omega arith; high = omega arith };
+      long = s p .pre .known .held .long;
+    }
+
 reach-of-requires : tie.Need-reach-of-requires
 reach-of-requires c κs =
-    let s = c .before .before .before .before .before .before in
-    let w = s .pre .walk in
-    (w .held, (w .placed, rw (theirs c) (known-at _ (w .accepted) _ (inside s) .placed)))
+    let l = c .before .before .before .before in
+    let p = l .before in
+    (l .limits-by .ensures, (placed p, s p .pre .placed))
 
 returns-2 : tie.Need-returns-2
 returns-2 c =
-    record { mark = refl; own = λ h. rw (c .before .before .before .station-at .ensures); reach = λ h. rw (theirs (c .before)) at (c .reach-of .ensures) }
+    let v = c .before .before in
+    let p = v .before .before .before .before in
+    let m = rw (theirs p) at (v .survey .ensures) in
+    record {
+      met = record { mark = refl; own = λ h. rw (p .before .before .station-at .ensures); reach = λ h. reaches-either table-a (rw (theirs p) at (c .reach-of .ensures)) };
+      held = record { long = m .long; of = λ h. m };
+    }
 
 pub blocker-at-spec : {M : Type 1} → statement M
 blocker-at-spec =
@@ -52,5 +81,7 @@ blocker-at-spec =
     station-at-requires
     cast-own
     place-of-requires
+    limits-by-requires
+    survey-requires
     reach-of-requires
     returns-2)

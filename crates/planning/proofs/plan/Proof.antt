@@ -9,15 +9,13 @@ use lib.ListN.{length}
 use denote.Ref.{now}
 use borrow.Rule.Slice.PartMut.{midOf, mid-len}
 use Rattle.part73.specs.Channels.{lowest, channelCount}
-use Rattle.part73.specs.TableA.{tableA}
 use Rattle.spacing.specs.declared.Place.{Place}
 use Rattle.stations.specs.Image.{count}
-use Rattle.survey.specs.Ways.{looked}
 use Rattle.marking.specs.Marks.{seen, markOf}
 use Rattle.survey.specs.declared.Terms.{Terms}
 use Rattle.planning.specs.Scene.{scene, sceneOf}
-use Rattle.planning.specs.Flags.{Mark, mayMove, Kept, Meets, start, Right, Planned}
-use Rattle.planning.specs.Planning.{Single}
+use Rattle.planning.specs.Flags.{Mark, mayMove, start, Right, Planned}
+use Rattle.planning.specs.Planning.{Single, Known}
 use Rattle.planning.specs.declared.Blocker.{Blocker}
 use Rattle.planning.proofs.Rowing.{Turned, turned, unturned}
 use Rattle.planning.proofs.Going.{moves-yes, marks-one, right-kept, right-down, plan-start, plan-turn}
@@ -29,25 +27,24 @@ record Turns (s : List ℕ) (t : Terms) (p : Place) (first last : ℕ) (moves₀
   low : first ≤ c
   high : c ≤ last + 1
   long : length moves ≡ length moves₀
-  held : Kept tableA (looked t) s (blocker .mark) kept
-  met : Meets tableA s p (blocker .mark) blocker
+  known : Known s t p (blocker .mark) blocker kept
   planned : Planned (sceneOf s t p) first c moves
 
 -- what is known of a station, under its own mark
-itself : {s : List ℕ} {p : Place} {v : ℕ} {b : Blocker} → Meets tableA s p v b → Meets tableA s p (b .mark) b
-itself {s} {p} {v} {b} m = subst (λ x. Meets tableA s p x b) (sym (m .mark)) m
+itself : {s : List ℕ} {t : Terms} {p : Place} {v : ℕ} {b : Blocker} {kept : List ℕ} → Known s t p v b kept → Known s t p (b .mark) b kept
+itself {s} {t} {p} {v} {b} {kept} m = subst (λ x. Known s t p x b kept) (sym (m .met .mark)) m
 
 -- one more
 next : {s : List ℕ} {t : Terms} {p : Place} {first last : ℕ} {moves₀ moves row moves′ : List Bool} {kept kept′ : List ℕ} {blocker blocker′ : Blocker} {c v : ℕ} → Turns s t p first last moves₀ moves kept blocker c → c ≤ last → Turned first c row moves moves′
-    → Kept tableA (looked t) s (blocker′ .mark) kept′ → Meets tableA s p (blocker′ .mark) blocker′ → v ≡ seen (sceneOf s t p .new c) (count s) → Right (sceneOf s t p) c v row → Turns s t p first last moves₀ moves′ kept′ blocker′ (c + 1)
+    → Known s t p (blocker′ .mark) blocker′ kept′ → v ≡ seen (sceneOf s t p .new c) (count s) → Right (sceneOf s t p) c v row → Turns s t p first last moves₀ moves′ kept′ blocker′ (c + 1)
 unfolding scene
-next i h u k b e r = record { low = omega (arith, i .low); high = omega arith; long = u .long ∙ i .long; held = k; met = b; planned = plan-turn (i .low) (i .planned) u e r }
+next i h u k e r = record { low = omega (arith, i .low); high = omega arith; long = u .long ∙ i .long; known = k; planned = plan-turn (i .low) (i .planned) u e r }
 
 abbrev Inv-loop : tie.InvT-loop
-Inv-loop table terms place limits marks moves₀ first last kept₀ blocker₀ c₀ moves kept blocker c = Turns table terms place first last moves₀ moves kept blocker c
+Inv-loop table terms place squares marks moves₀ first last kept₀ blocker₀ c₀ moves kept blocker c = Turns table terms place first last moves₀ moves kept blocker c
 
 abbrev μ-loop : tie.MeasureT-loop
-μ-loop table terms place limits marks moves₀ first last kept₀ blocker₀ c₀ moves kept blocker c = last + 1 - c
+μ-loop table terms place squares marks moves₀ first last kept₀ blocker₀ c₀ moves kept blocker c = last + 1 - c
 
 loop-holds : tie.Need-loop-holds Inv-loop μ-loop
 loop-holds c =
@@ -56,8 +53,11 @@ loop-holds c =
       low = omega arith;
       high = omega (arith, s .pre .asked);
       long = refl;
-      held = record { long = refl; of = λ h. absurd (omega arith) };
-      met = record { mark = refl; own = λ h. absurd (omega arith); reach = λ h. absurd (omega arith) };
+      known =
+          record {
+            met = record { mark = refl; own = λ h. absurd (omega arith); reach = λ h. absurd (omega arith) };
+            held = record { long = refl; of = λ h. absurd (omega arith) };
+          };
       planned = plan-start _ (s .pre .down);
     }
 
@@ -109,26 +109,22 @@ module _ (c : tie.Then1 Inv-loop μ-loop) where
   single = moves-yes (table m) (mark m) (known m) moves .0
 
 may-move-requires : tie.Need-may-move-requires Inv-loop μ-loop
-may-move-requires c κs = record { accepted = s c .pre .walk .accepted; known = known c }
-
-survey-from-requires : tie.Need-survey-from-requires Inv-loop μ-loop
-survey-from-requires c κs =
-    let t = c .before in
-    record { accepted = s (m t) .pre .walk .accepted; single = single t; held = at (m t) .loop .inv .held }
+may-move-requires c κs = record { accepted = s c .pre .accepted; known = known c }
 
 blocker-at-requires : tie.Need-blocker-at-requires Inv-loop μ-loop
 blocker-at-requires c κs =
-    let t = c .before .before in
-    record { walk = s (m t) .pre .walk; single = single t; held = at (m t) .loop .inv .met }
+    let t = c .before in
+    let q = s (m t) .pre in
+    record { accepted = q .accepted; placed = q .placed; squared = q .squared; single = single t; known = at (m t) .loop .inv .known }
 
 sub-a : tie.Need-sub-a Inv-loop μ-loop
-sub-a c = at (m (c .before .before .before)) .loop .inv .low
+sub-a c = at (m (c .before .before)) .loop .inv .low
 
 mul-a : tie.Need-mul-a Inv-loop μ-loop
-mul-a c = let w = within (m (c .before .before .before)) in omega (arith, w, s (m (c .before .before .before)) .good)
+mul-a c = let w = within (m (c .before .before)) in omega (arith, w, s (m (c .before .before)) .good)
 
 add-b : tie.Need-add-b Inv-loop μ-loop
-add-b c = let w = within (m (c .before .before .before)) in omega (arith, w, s (m (c .before .before .before)) .good)
+add-b c = let w = within (m (c .before .before)) in omega (arith, w, s (m (c .before .before)) .good)
 
 sub-fill-row : tie.Need-sub-fill-row Inv-loop μ-loop
 sub-fill-row c = omega arith
@@ -137,11 +133,11 @@ part-fill-row-start : tie.Need-part-fill-row-start Inv-loop μ-loop
 part-fill-row-start c = omega arith
 
 part-fill-row-end : tie.Need-part-fill-row-end Inv-loop μ-loop
-part-fill-row-end c = within (m (c .before .before .before .before))
+part-fill-row-end c = within (m (c .before .before .before))
 
 fill-row-requires : tie.Need-fill-row-requires Inv-loop μ-loop
 fill-row-requires c κs =
-    row-long (c .before .before .before .before .before)
+    row-long (c .before .before .before .before)
 
 add-c : tie.Need-add-c Inv-loop μ-loop
 add-c c = let n = c .before .before in omega (arith, n .before .loop-test .taken, s n .pre .asked .high)
@@ -157,14 +153,14 @@ loop-again c =
     ⊎-elim
     (λ w.
     let t : tie.Then1 Inv-loop μ-loop = record { before = c .before; if1 = w .0 } in
-    let e : length (w .6 .last .1 .1 .1 .0) ≡ channelCount = w .6 .kept .1 .1 .1 .0 ∙ row-long t in
-    let met = w .3 .ensures in
+    let e : length (w .5 .last .1 .1 .1 .0) ≡ channelCount = w .5 .kept .1 .1 .1 .0 ∙ row-long t in
+    let b = w .2 .ensures in
     let low : lowest ≤ at n .loop .c = omega (arith, s n .pre .asked .low, i .low) in
-    rw (w .9, w .10, w .11)
-    (next i on (turned _ _ _ (i .low) refl (within n) e) (rw (met .mark) (w .2 .ensures)) (itself met) (is n) (right-kept _ _ _ _ (is n) (s n .pre .walk .accepted) low (moves t) (w .2 .ensures) met (w .6 .ensures))))
+    rw (w .8, w .9, w .10)
+    (next i on (turned _ _ _ (i .low) refl (within n) e) (itself b) (is n) (right-kept _ _ _ _ (is n) (s n .pre .accepted) low (moves t) (b .held) (b .met) (w .5 .ensures))))
     (λ w.
     rw (w .1, w .2, w .3)
-    (next i on (unturned _) (i .held) (i .met) (is n) (right-down _ _ _ _ (is n) (sym (c .before .may-move .ensures) ∙ w .0 .left) (i .planned .down .at _ (omega arith)))))
+    (next i on (unturned _) (i .known) (is n) (right-down _ _ _ _ (is n) (sym (c .before .may-move .ensures) ∙ w .0 .left) (i .planned .down .at _ (omega arith)))))
     (c .if1 .came)
 
 same-length : tie.Need-same-length Inv-loop μ-loop
@@ -188,7 +184,6 @@ plan-spec =
     mul-mark
     element-copy-out-mark
     may-move-requires
-    survey-from-requires
     blocker-at-requires
     sub-a
     mul-a

@@ -22,13 +22,16 @@ answered-as {entry} {exit} {r} e a = subst (λ (xs : List ℕ). Answered (grant 
 -- the marks are those of the new station
 module _ (c : tie.After-survey) where
   abbrev s : tie.Start
-  s = c .before .before .before .before .before .before .before
+  s = c .before .before .before .before .before .before .before .before .before
 
   marked : Marked (sceneOf (now (s .args .table)) (s .args .terms) (s .args .place) .new) (s .args .channels .first) (s .args .channels .last) (count (now (s .args .table))) (c .survey .last .1 .1 .1 .1 .1 .0)
   marked = as-new _ _ _ (s .args .channels) (c .survey .ensures)
 
-limits-of-requires : tie.Need-limits-of-requires
-limits-of-requires c κs = search needs
+by-table-a-requires : tie.Need-by-table-a-requires
+by-table-a-requires c κs = search needs
+
+limits-by-requires : tie.Need-limits-by-requires
+limits-by-requires c κs = search needs
 
 survey-requires : tie.Need-survey-requires
 survey-requires c κs = search needs
@@ -38,7 +41,9 @@ plan-requires c κs =
     let v = c .before .before .before in
     let q = s v .pre in
     record {
-      walk = record { accepted = q .question .accepted; placed = q .question .placed; held = v .before .before .before .limits-of .ensures };
+      accepted = q .question .accepted;
+      placed = q .question .placed;
+      squared = v .before .before .before .before .before .by-table-a .ensures;
       asked = q .question .asked;
       marked = marked v;
       down = q .down;
@@ -74,7 +79,8 @@ pub list-with-spec : {M : Type 1} → statement M
 list-with-spec =
     tie.close
     (tie.spec
-    limits-of-requires
+    by-table-a-requires
+    limits-by-requires
     survey-requires
     plan-requires
     list-if-room-requires

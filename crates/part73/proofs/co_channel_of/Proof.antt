@@ -1,23 +1,24 @@
--- `part73::separations_of` meets its contract: the places are filled one by one. Assumes nothing.
+-- `part73::co_channel_of` meets its contract: the places are filled one by one. Assumes nothing.
 use mathlib.Core.Path.{refl}
-use Prim.Native.Nat.{_-_, _/_, _%_}
+use Prim.Native.Nat.{_-_}
 use native.Mathlib.Omega.{arith}
+use lib.Dec.{lit<}
 use Rattle.ground.proofs.Filling.{Filled, fill-start, fill-turn}
 use Rattle.part73.specs.TableA.{tableA}
-use Rattle.part73.proofs.separations_of.Statement.{statement}
-use Rattle.part73.proofs.separations_of.Tie as tie
+use Rattle.part73.proofs.co_channel_of.Statement.{statement}
+use Rattle.part73.proofs.co_channel_of.Tie as tie
 
 abbrev Inv-loop : tie.InvT-loop
-Inv-loop class table out₀ k₀ out k = Filled (λ j. tableA class (j / 4) (j % 4)) out 32 k
+Inv-loop class table out₀ b₀ out b = Filled (λ j. tableA class j 0) out 8 b
 
 abbrev μ-loop : tie.MeasureT-loop
-μ-loop class table out₀ k₀ out k = 32 - k
+μ-loop class table out₀ b₀ out b = 8 - b
 
 table-rows-requires : tie.Need-table-rows-requires Inv-loop μ-loop
 table-rows-requires c κs = tt
 
 loop-holds : tie.Need-loop-holds Inv-loop μ-loop
-loop-holds c = fill-start _ _ 32 refl
+loop-holds c = fill-start _ _ 8 refl
 
 row-of-requires : tie.Need-row-of-requires Inv-loop μ-loop
 row-of-requires c κs = (c .before .before .before .pre, omega arith)
@@ -25,23 +26,20 @@ row-of-requires c κs = (c .before .before .before .pre, omega arith)
 mul-out : tie.Need-mul-out Inv-loop μ-loop
 mul-out c = omega (arith, c .row-of .ensures .within)
 
-mul-out-2 : tie.Need-mul-out-2 Inv-loop μ-loop
-mul-out-2 c = omega arith
-
 index-1-out : tie.Need-index-1-out Inv-loop μ-loop
 index-1-out c = c .row-of .ensures .within
 
 index-2-out : tie.Need-index-2-out Inv-loop μ-loop
 index-2-out c = omega arith
 
-mul-out-3 : tie.Need-mul-out-3 Inv-loop μ-loop
-mul-out-3 c = omega arith
+mul-out-2 : tie.Need-mul-out-2 Inv-loop μ-loop
+mul-out-2 c = omega arith
 
 array-write-out : tie.Need-array-write-out Inv-loop μ-loop
 array-write-out c = omega arith
 
-add-k : tie.Need-add-k Inv-loop μ-loop
-add-k c = omega arith
+add-b : tie.Need-add-b Inv-loop μ-loop
+add-b c = omega arith
 
 loop-less : tie.Need-loop-less Inv-loop μ-loop
 loop-less c = omega arith
@@ -51,13 +49,13 @@ loop-again c =
     let r = c .before in
     let at = r .before .before .loop in
     let table = r .before .before .before .table-rows .ensures in
-    fill-turn (at .inv) (omega arith) (rw table (r .row-of .ensures .at (at .k % 4) (omega arith)))
+    fill-turn (at .inv) (omega arith) (rw table (r .row-of .ensures .at 0 (lit< tt)))
 
 returns : tie.Need-returns Inv-loop μ-loop
-returns c = record { at = λ k h. c .before .loop .inv .at k (omega arith) }
+returns c = record { at = λ b h. c .before .loop .inv .at b (omega arith) }
 
-pub separations-of-spec : {M : Type 1} → statement M
-separations-of-spec =
+pub co-channel-of-spec : {M : Type 1} → statement M
+co-channel-of-spec =
     tie.close
     (tie.spec
     Inv-loop
@@ -66,12 +64,11 @@ separations-of-spec =
     loop-holds
     row-of-requires
     mul-out
-    mul-out-2
     index-1-out
     index-2-out
-    mul-out-3
+    mul-out-2
     array-write-out
-    add-k
+    add-b
     loop-less
     loop-again
     returns)
