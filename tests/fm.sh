@@ -989,9 +989,13 @@ fm: 4 of 4 crates proved (fm_check)
 Nothing is short: channel 250 is acceptable for class A in zone II at 00-00-00N 000-00-00E.
 SAYS
 
+# Whoever ignores interrupts hands that on, and an interrupted build would go on: env sets it back where it can.
+heed=''
+env --default-signal=INT true >/dev/null 2>&1 && heed=--default-signal=INT
+
 # The same on a terminal, where a line that is written over is shown here with its returns as < and its spaces as one.
 on_terminal() { # WORDS
-    env SHELL=/bin/sh script -q -e -c "PATH='$path' '$fm' $*" /dev/null >said 2>&1 </dev/null
+    env $heed SHELL=/bin/sh script -q -e -c "PATH='$path' '$fm' $*" /dev/null >said 2>&1 </dev/null
     ended=$?
     got=$(tr '\r' '<' <said | sed 's/<$//; s/  */ /g; s/ $//')
 }
