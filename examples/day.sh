@@ -37,6 +37,10 @@ done <<'DAY'
 ./fm add tomorrow.fms twice.fms 3001 236 C3 II 41-45-12N 046-20-30W || echo "status $?"
 ./fm check tomorrow.fms 236 B II 41-45-12N 046-20-30W || echo "status $?"
 ./fm show tomorrow.fms | sed -n '1p;$p'
+./fm check examples/region.fms 235 C3 II 41-45-12N 046-20-30W
+./fm check examples/region.fms 235 C3 II 41-45-12N 046-20-30W --standard 2
+./fm why examples/region.fms 257 C3 II 41-45-12N 046-20-30W --standard 2
+./fm add examples/region.fms protected.fms 3002 235 C3 II 41-45-12N 046-20-30W || echo "status $?"
 printf 'FMS\000\001\000\000\000' >nobody.fms
 ./fm add nobody.fms strait.fms 7 250 A II 51-52-00N 179-59-51W
 ./fm distance 51-52-00N 179-59-59E 51-52-00N 179-59-51W

@@ -1,4 +1,4 @@
-/* fms.h: the FM channel-spacing desk under 47 CFR 73.207, for C and C++. Link with libfms.a (x86-64).
+/* fms.h: the FM channel-spacing desk under 47 CFR 73.207 and 73.215(e), for C and C++. Link with libfms.a (x86-64).
 
    Every question gets an answer in one 64-bit number. Its high half is the refusal's number, 0 where the question was
    granted. Its low half is then the count written, in bytes for an image and in 32-bit numbers for a list, or the count
@@ -13,7 +13,7 @@
    - a length counts elements: bytes of a table or an image, 32-bit numbers of rows;
    - the table and the buffer for the answer (image, rows or reason) do not overlap, and nobody else writes either during
      the call.
-   Nothing is owed of the numbers: every table, channel, class, zone, id and coordinate gets its decision.
+   Nothing is owed of the numbers: every table, channel, class, zone, id, standard and coordinate gets its decision.
 
    What callers get:
    - a refusal writes nothing, nor does fms_reason for clear; any other granted answer stands from the buffer's start, and
@@ -30,8 +30,9 @@
 #include <stdint.h>
 
 /* The number of this interface. A new function raises it, and so does a change of what one takes: other words, or tables
-   of a further version, on which an answer may need more room. */
-#define FMS_INTERFACE 5
+   of a further version, on which an answer may need more room. In interface 6 fms_check, fms_reason and fms_arrange take a
+   standard after the id left aside. */
+#define FMS_INTERFACE 6
 
 #ifdef __cplusplus
 extern "C" {
@@ -56,7 +57,16 @@ enum fms_zone {
     FMS_ZONE_II = 3
 };
 
-/* The columns of Table A, each for the channel differences that are named. */
+/* The standards: the separations that fms_check, fms_reason and fms_arrange go by. All other functions go by Table A. No
+   other number is a standard, 0 neither, though an id of 0 leaves nobody aside. */
+enum fms_standard {
+    FMS_STANDARD_TABLE_A = 1,        /* Table A of 73.207(b)(1) */
+    FMS_STANDARD_LESSER = 2          /* the lesser separations of 73.215(e), for an application that requests processing
+                                        under 73.215 and shows contour protection; the column 10.6/10.8 MHz, which it does
+                                        not list, is Table A's */
+};
+
+/* The columns of the separations, each for the channel differences that are named. */
 enum fms_column {
     FMS_COLUMN_CO_CHANNEL = 0,       /* co-channel: 0 */
     FMS_COLUMN_200_KHZ = 1,          /* 200 kHz: 1 */
@@ -93,7 +103,8 @@ enum fms_refusal {
     FMS_ID_ABSENT = 23,              /* withdraw, move: no station has the id; check, reason, arrange: the nonzero id left
                                         aside is that of no station */
     FMS_TOO_FAR = 24,                /* distance: over 475 km */
-    FMS_NOT_MOVABLE = 25             /* move: fixed, or at or below channel 220; the position */
+    FMS_NOT_MOVABLE = 25,            /* move: fixed, or at or below channel 220; the position */
+    FMS_ASKED_STANDARD = 26          /* check, reason, arrange: standard neither 1 nor 2; judged after 16 and before 17 */
 };
 
 /* The refusal's number in an answer; 0 where the question was granted. */
@@ -136,28 +147,33 @@ uint64_t fms_move(const uint8_t *table, size_t table_len, uint32_t id, uint32_t 
 
 /* The next three take the id of a station to leave aside, 0 for none, as for a station that changes its own site. The
    table is judged whole; the answer is then the one that the table without that station would get, but for the byte that
-   fms_reason gives, which counts in the table as it is lent. */
+   fms_reason gives, which counts in the table as it is lent.
+
+   They also take a standard (enum fms_standard), by whose separations everybody is held: the new station, and in
+   fms_arrange a moved one, to all others and to each other. What is acceptable or clean by FMS_STANDARD_LESSER may still be
+   short by Table A, and then fms_add and fms_move refuse it with FMS_SHORT. */
 
 /* The stations that are short to a proposal, in table order: id, D in km, R in km of each. 0 numbers: acceptable. */
 uint64_t fms_check(const uint8_t *table, size_t table_len, uint32_t channel, uint32_t station_class, uint32_t zone,
-                   int32_t lat, int32_t lon, uint32_t aside, uint32_t *rows, size_t rows_len);
+                   int32_t lat, int32_t lon, uint32_t aside, uint32_t standard, uint32_t *rows, size_t rows_len);
 
 /* Why a proposal is blocked: of the stations that are short to it the one with the largest R - D, the lowest id among
    equals. Clear, where none is short: value 0, and `reason` stays as it was. Blocked: the value is the byte of the table
-   at which the station's own sixteen begin, never 0, and `reason` gets its id, D in km, R in km, and the column of Table A
-   that R stands in (enum fms_column). The refusals are those of fms_check without FMS_ROOM. */
+   at which the station's own sixteen begin, never 0, and `reason` gets its id, D in km, R in km, and the column that R
+   stands in (enum fms_column). The refusals are those of fms_check without FMS_ROOM. */
 uint64_t fms_reason(const uint8_t *table, size_t table_len, uint32_t channel, uint32_t station_class, uint32_t zone,
-                    int32_t lat, int32_t lon, uint32_t aside, uint32_t reason[4]);
+                    int32_t lat, int32_t lon, uint32_t aside, uint32_t standard, uint32_t reason[4]);
 
 /* Every clean arrangement for a new station on first to last: new channel, id moved, its new channel of each; 0 and 0
    where nothing moves. Ascending by new channel, then id, then moved channel. */
 uint64_t fms_arrange(const uint8_t *table, size_t table_len, uint32_t first, uint32_t last, uint32_t station_class,
-                     uint32_t zone, int32_t lat, int32_t lon, uint32_t aside, uint32_t *rows, size_t rows_len);
+                     uint32_t zone, int32_t lat, int32_t lon, uint32_t aside, uint32_t standard, uint32_t *rows,
+                     size_t rows_len);
 
 /* The limit of two classes, in either order, in a column of Table A (enum fms_column): the square of 10,000 R - 5,000
    decimetres, where R is their separation in km. Two stations whose channel difference reads that column, not both at or
    below channel 220, are short exactly when the square of their distance in decimetres is below it, which is when the
-   rounded distance is below R. 0 where a class is over 7 or the column over 3. */
+   rounded distance is below R. 0 where a class is over 7 or the column over 3. It takes no standard: 73.215(e) is not in it. */
 uint64_t fms_limit(uint32_t class_one, uint32_t class_other, uint32_t column);
 
 #ifdef __cplusplus

@@ -38,11 +38,23 @@ asks() { # PROGRAM
 examples/region.fms 270 3 3 150312 -166830
 examples/region.fms 271 0 3 149400 -165600
 examples/region.fms 256 7 3 150312 -166830
+examples/region.fms 256 7 3 150312 -166830 0 1
+examples/region.fms 256 7 3 150312 -166830 0 2
+examples/region.fms 229 5 3 150312 -166830 0 1
+examples/region.fms 229 5 3 150312 -166830 0 2
 examples/region.fms 256 7 3 150312 -166830 1019
+examples/region.fms 256 7 3 150312 -166830 1019 2
 examples/region.fms 270 3 3 150312 -166830 1161
 examples/region.fms 270 3 3 150312 -166830 1160
 examples/region.fms 220 3 3 150312 -166830
 examples/region.fms 236 2 3 150312 -166830
+examples/region.fms 236 3 3 150312 -166830 0 0
+examples/region.fms 236 3 3 150312 -166830 0 3
+examples/region.fms 236 3 3 150312 -166830 0 4294967295
+examples/region.fms 236 2 3 150312 -166830 0 3
+examples/region.fms 236 3 3 270001 -166830 1 3
+examples/region.fms 236 3 3 270001 -166830 1 2
+examples/region.fms 236 3 3 150312 -166830 1 2
 examples/day.sh 270 3 3 150312 -166830
 examples/absent.fms 270 3 3 150312 -166830
 ASKS
@@ -54,7 +66,7 @@ sh "$root/tests/crowd.sh" 2 4000 >"$room/full.fms"
 answers_full() { # PROGRAM
     [ "$("$1" "$room/full.fms" 254 0 3 0 0 | sed -n '1p;4001p;4002p;$=')" = 'short 4000
 4000 2 10
-1 0 10 3
+1 0 10 3 1
 4082' ]
 }
 

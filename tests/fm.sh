@@ -112,7 +112,7 @@ done
 rm -f said
 
 # ---- help and the words of a command
-first='fm: which FM channels fit at a site under 47 CFR 73.207'
+first='fm: which FM channels fit at a site under 47 CFR 73.207, or with contours protected under 73.215'
 for word in help --help -h; do
     hold "fm $word" [ "$("$fm" "$word" | sed 1q)" = "$first" ]
 done
@@ -165,7 +165,7 @@ fm show: the stations of a table
 
 Each stands in a line: position, id, channel, class, whether it may move, site.
 
-  TABLE    a file of up to 4,000 stations; it is only read
+  TABLE       a file of up to 4,000 stations; it is only read
 
 Refuses: a damaged table (1 to 12).
 SAYS
@@ -177,8 +177,8 @@ fm distance: how many km two sites are apart
 
 By the method of 47 CFR 73.208, in whole km, as in the lines of check; over the 180th meridian the short way round.
 
-  LAT LON  degrees, minutes and seconds, as 40-44-54N 073-59-09W, or seconds of arc, as 146694 -266349
-  --raw    anywhere among the words: the proved program's own lines instead of sentences (not for show)
+  LAT LON     degrees, minutes and seconds, as 40-44-54N 073-59-09W, or seconds of arc, as 146694 -266349
+  --raw       anywhere among the words: the proved program's own lines instead of sentences (not for show)
 
 Refuses: a site out of range (17), sites more than 475 km apart (24).
 SAYS
@@ -188,16 +188,26 @@ fm why: why a channel is blocked, or that it is clear
   ./fm why TABLE CHANNEL CLASS ZONE LAT LON
   Example: ./fm why examples/region.fms 257 C3 II 41-45-12N 046-20-30W
 
-The station that is short by most (of equals the lowest id), and what 47 CFR 73.207 asks between the two.
+The station that is short by most (of equals the lowest id), and the separation that the two should keep.
 
-  TABLE    a file of up to 4,000 stations; it is only read
-  ID       the station's number, from 1
-  CHANNEL  221 to 300
-  CLASS    A, B1, B, C3, C2, C1, C0 or C
-  ZONE     I, I-A or II (I and I-A permit A, B1, B; II permits A, C3, C2, C1, C0, C)
-  LAT LON  degrees, minutes and seconds, as 40-44-54N 073-59-09W, or seconds of arc, as 146694 -266349
-  --aside  anywhere among the words, with an ID: as if that station were not there (check, why and arrange only)
-  --raw    anywhere among the words: the proved program's own lines instead of sentences (not for show)
+  TABLE       a file of up to 4,000 stations; it is only read
+  ID          the station's number, from 1
+  CHANNEL     221 to 300
+  CLASS       A, B1, B, C3, C2, C1, C0 or C
+  ZONE        I, I-A or II (I and I-A permit A, B1, B; II permits A, C3, C2, C1, C0, C)
+  LAT LON     degrees, minutes and seconds, as 40-44-54N 073-59-09W, or seconds of arc, as 146694 -266349
+  --aside     anywhere among the words, with an ID: as if that station were not there (check, why and arrange only)
+  --standard  anywhere among the words, with 1 or 2: the separations to go by (check, why and arrange only; else 1)
+  --raw       anywhere among the words: the proved program's own lines instead of sentences (not for show)
+
+Standards:
+  1  Table A of 47 CFR 73.207: for every application and every petition. Without --standard a study goes by it.
+  2  The lesser separations of 47 CFR 73.215(e): only for an application that requests processing under 73.215
+     on its face, and shows by an exhibit contour protection toward every assignment, application and allotment
+     that is nearer than 73.207 asks. To predict the contours is the engineers' work: fm looks at none. Channels
+     53 or 54 apart (10.6/10.8 MHz) stay by 73.207. No petition for an allotment may use it; a change of channel
+     may with an exhibit of an allotment site that meets 73.207 in full (note to 73.203).
+  add and move go by 1 always, so they may refuse with 20 what a study by 2 finds acceptable.
 
 Refuses: a damaged table (1 to 12), a channel outside 221 to 300 (13), a class that the zone does not
   permit (16), a site out of range (17), an id left aside that no station has (23).
@@ -228,13 +238,13 @@ SAYS
 try 0 check one.fms 250 A II 0 3702 <<'SAYS'
 Channel 250 is not acceptable for class A in zone II at 00-00-00N 001-01-42E:
 1 station is short.
-  station 7 on 250 (class A)  is 114 km away and should be 115 km: short by 1 km
+  station 7 on 250 (class A)  is 114 km away and should be 115 km: short by 1 km under 73.207
 SAYS
 for east in 001-01-42E 1-1-42e 01-01-42E +3702 03702; do
     try 0 check one.fms 250 a ii 00-00-00S "$east" <<'SAYS'
 Channel 250 is not acceptable for class A in zone II at 00-00-00N 001-01-42E:
 1 station is short.
-  station 7 on 250 (class A)  is 114 km away and should be 115 km: short by 1 km
+  station 7 on 250 (class A)  is 114 km away and should be 115 km: short by 1 km under 73.207
 SAYS
 done
 for west in 001-01-43W -3703 -03703; do
@@ -267,10 +277,10 @@ SAYS
 try 0 check three.fms 299 C II -269999 647999 <<'SAYS'
 Channel 299 is not acceptable for class C in zone II at 74-59-59S 179-59-59E:
 1 station is short.
-  station 4294967295 on 300 (class C)  is   0 km away and should be 241 km: short by 241 km
+  station 4294967295 on 300 (class C)  is   0 km away and should be 241 km: short by 241 km under 73.207
 SAYS
 hold "check: 4,000 stations are short" [ "$("$fm" check full.fms 254 A II 0 0 | sed -n '2p;$p;$=')" = '4000 stations are short.
-  station 4000 on 201 (class A)  is   2 km away and should be  10 km: short by 8 km
+  station 4000 on 201 (class A)  is   2 km away and should be  10 km: short by 8 km under 73.207
 4002' ]
 for class in A B1 B b1 b; do
     try 0 check empty.fms 221 "$class" I 0 0 --raw <<'SAYS'
@@ -323,7 +333,7 @@ SAYS
 done
 # The larger shortfall, first of the lower id and then of the higher; of many equal ones the lowest id.
 "$fm" add one.fms pair.fms 9 253 A II 0 987 >/dev/null
-for words in '7 31 72 1:251 A II 0 987' '9 3 72 1:252 A II 0 900'; do
+for words in '7 31 72 1 1:251 A II 0 987' '9 3 72 1 1:252 A II 0 900'; do
     # shellcheck disable=SC2086
     try 0 why --raw pair.fms ${words#*:} <<SAYS
 ${words%:*}
@@ -331,10 +341,10 @@ SAYS
 done
 rm -f pair.fms
 try 0 --raw why full.fms 254 A II 0 0 <<'SAYS'
-1 0 10 3
+1 0 10 3 1
 SAYS
 try 0 why full.fms 255 A II 0 --aside 1 0 --raw <<'SAYS'
-2 0 10 3
+2 0 10 3 1
 SAYS
 
 # ---- arrange
@@ -400,7 +410,7 @@ done
 try 0 check three.fms 299 C II -269999 647999 --aside 9 <<'SAYS'
 Channel 299 is not acceptable for class C in zone II at 74-59-59S 179-59-59E:
 1 station is short.
-  station 4294967295 on 300 (class C)  is   0 km away and should be 241 km: short by 241 km
+  station 4294967295 on 300 (class C)  is   0 km away and should be 241 km: short by 241 km under 73.207
 Station 9 was left aside, as if it were not in the table.
 Its old record must be withdrawn before the new one can be added.
 SAYS
@@ -518,6 +528,237 @@ done
 hold "fm withdraw --help: no --aside" [ "$("$fm" withdraw --help | grep -c -e --aside)" -eq 0 ]
 hold "fm help: --aside" [ "$("$fm" help | grep -c '^  --aside  ')" -eq 1 ]
 
+# ---- the standards: two stations of class A on one channel keep 92 km by 73.215(e); 2959 seconds are 91 km, 2960 are 92
+judged='Judged by the lesser separations of 47 CFR 73.215(e), and on channels 53 or 54 apart by 73.207.
+They are for an application that requests processing under 73.215 on its face and shows
+contour protection toward all that are nearer than 73.207 asks. No contour was looked at.
+./fm add and ./fm move go by Table A of 73.207, and may refuse with 20.'
+for words in '--standard 2 check one.fms 250 A II 0 2960' 'check --standard 2 one.fms 250 A II 0 2960' 'check one.fms 250 A --standard 02 II 0 2960' \
+    'check one.fms 250 A II 0 --standard 2 2960' 'check one.fms 250 A II 0 2960 --standard 2'; do
+    # shellcheck disable=SC2086
+    try 0 $words <<SAYS
+Nothing is short: with contours protected, channel 250 is acceptable for class A in zone II at 00-00-00N 000-49-20E.
+$judged
+SAYS
+done
+try 0 check one.fms 250 A II 0 2959 --standard 2 <<SAYS
+Channel 250 is not acceptable for class A in zone II at 00-00-00N 000-49-19E, even with contours protected:
+1 station is short.
+  station 7 on 250 (class A)  is  91 km away and should be  92 km: short by 1 km under 73.215(e)
+$judged
+SAYS
+# A row for each column: those of 73.215(e), and of 10.6/10.8 MHz that of 73.207.
+{
+    printf '%b' 'FMS\0000\0001\0000\0000\0006'
+    printf '%b' '\0000\0000\0000\0001\0001\0004\0000\0000\0000\0000\0000\0000\0000\0000\0000\0000'
+    printf '%b' '\0000\0000\0000\0002\0001\0005\0001\0000\0000\0000\0000\0000\0000\0000\0000\0000'
+    printf '%b' '\0000\0000\0000\0003\0001\0002\0002\0000\0000\0000\0000\0000\0000\0000\0000\0000'
+    printf '%b' '\0000\0000\0000\0004\0001\0007\0003\0000\0000\0000\0000\0000\0000\0000\0000\0000'
+    printf '%b' '\0000\0000\0000\0005\0000\0317\0004\0000\0000\0000\0000\0000\0000\0000\0000\0000'
+    printf '%b' '\0000\0000\0000\0006\0000\0316\0007\0001\0000\0000\0000\0000\0000\0000\0000\0000'
+} >columns.fms
+try 0 check columns.fms 260 A II 0 0 --standard 2 <<SAYS
+Channel 260 is not acceptable for class A in zone II at 00-00-00N 000-00-00E, even with contours protected:
+6 stations are short.
+  station 1 on 260 (class A)  is   0 km away and should be  92 km: short by 92 km under 73.215(e)
+  station 2 on 261 (class B1) is   0 km away and should be  72 km: short by 72 km under 73.215(e)
+  station 3 on 258 (class B)  is   0 km away and should be  63 km: short by 63 km under 73.215(e)
+  station 4 on 263 (class C3) is   0 km away and should be  36 km: short by 36 km under 73.215(e)
+  station 5 on 207 (class C2) is   0 km away and should be  15 km: short by 15 km under 73.207
+  station 6 on 206 (class C)  is   0 km away and should be  29 km: short by 29 km under 73.207
+$judged
+SAYS
+try 0 check columns.fms 260 A II 0 0 <<'SAYS'
+Channel 260 is not acceptable for class A in zone II at 00-00-00N 000-00-00E:
+6 stations are short.
+  station 1 on 260 (class A)  is   0 km away and should be 115 km: short by 115 km under 73.207
+  station 2 on 261 (class B1) is   0 km away and should be  96 km: short by 96 km under 73.207
+  station 3 on 258 (class B)  is   0 km away and should be  69 km: short by 69 km under 73.207
+  station 4 on 263 (class C3) is   0 km away and should be  42 km: short by 42 km under 73.207
+  station 5 on 207 (class C2) is   0 km away and should be  15 km: short by 15 km under 73.207
+  station 6 on 206 (class C)  is   0 km away and should be  29 km: short by 29 km under 73.207
+SAYS
+rm -f columns.fms
+# Why, in each column, and clear.
+try 0 why one.fms 250 A II 0 2959 --standard 2 <<SAYS
+Channel 250 is blocked for class A in zone II at 00-00-00N 000-49-19E, even with contours protected.
+The largest shortfall is to station 7, channel 250, class A, at 00-00-00N 000-00-00E.
+It stands 91 km away, and 47 CFR 73.215(e) asks for 92 km between two stations of class A
+on the same channel (co-channel): short by 1 km.
+$judged
+SAYS
+try 0 why --standard 2 three.fms 299 c0 ii -269999 647999 <<SAYS
+Channel 299 is blocked for class C0 in zone II at 74-59-59S 179-59-59E, even with contours protected.
+The largest shortfall is to station 4294967295, channel 300, class C, at 75-00-00S 180-00-00E.
+It stands 0 km away, and 47 CFR 73.215(e) asks for 207 km between class C0 and class C
+on channels one apart (200 kHz): short by 207 km.
+$judged
+SAYS
+for channel in 247 248 252 253; do
+    try 0 why link.fms "$channel" B1 I-A 0 986 --standard 2 <<SAYS
+Channel $channel is blocked for class B1 in zone I-A at 00-00-00N 000-16-26E, even with contours protected.
+The largest shortfall is to station 7, channel 250, class A, at 00-00-00N 000-00-00E.
+It stands 30 km away, and 47 CFR 73.215(e) asks for 42 km between class B1 and class A
+on channels two or three apart (400/600 kHz): short by 12 km.
+$judged
+SAYS
+done
+for channel in 273 274; do
+    try 0 why three.fms "$channel" B I 40-44-54N 073-59-09W --standard 2 <<SAYS
+Channel $channel is blocked for class B in zone I at 40-44-54N 073-59-09W, even with contours protected.
+The largest shortfall is to station 9, channel 220, class C2, at 40-44-54N 073-59-09W.
+It stands 0 km away, and 47 CFR 73.207 asks for 20 km between class B and class C2
+on channels 53 or 54 apart (10.6/10.8 MHz): short by 20 km.
+$judged
+SAYS
+done
+try 0 why one.fms 250 A II 0 2960 --standard 2 <<SAYS
+With contours protected, channel 250 is clear for class A in zone II at 00-00-00N 000-49-20E:
+no station is nearer than 47 CFR 73.215(e) asks, or on channels 53 or 54 apart 73.207.
+$judged
+SAYS
+# The programs' own lines: short by both standards, by Table A alone, by none.
+for words in '2959:7 91 115 0 1:7 91 92 0 2' '2960:7 92 115 0 1:clear' '3702:7 114 115 0 1:clear' '3703:clear:clear'; do
+    east=${words%%:*} by2=${words##*:}
+    by1=${words#*:}
+    by1=${by1%:*}
+    try 0 why --raw one.fms 250 A II 0 "$east" <<SAYS
+$by1
+SAYS
+    try 0 why --raw one.fms 250 A II 0 "$east" --standard 2 <<SAYS
+$by2
+SAYS
+done
+try 0 check --raw one.fms 250 A II 0 2959 --standard 2 <<'SAYS'
+short 1
+7 91 92
+SAYS
+try 0 --standard 2 --raw check one.fms 250 A II 0 3702 <<'SAYS'
+short 0
+SAYS
+# Arrange: at 25 km the channels two and three from 250 are free by 73.215(e), and a station that moves goes by it too.
+try 0 arrange one.fms A II 0 800 --standard 2 <<SAYS
+Class A in zone II at 00-00-00N 000-13-20E, with contours protected: of 80 channels
+77 are free, 3 open by one move, 0 are shut.
+
+             1 2 3 4 5  6 7 8 9 0
+  221-230    o o o o o  o o o o o
+  231-240    o o o o o  o o o o o
+  241-250    o o o o o  o o o + +
+  251-260    + o o o o  o o o o o
+  261-270    o o o o o  o o o o o
+  271-280    o o o o o  o o o o o
+  281-290    o o o o o  o o o o o
+  291-300    o o o o o  o o o o o
+
+  o free   + opens by one move   . shut
+
+Free: 221-248, 252-300.
+
+Open by one move:
+  249 if station 7 (class A) moves from 250 to one of 221-247, 251-300.
+  250 if station 7 (class A) moves from 250 to one of 221-248, 252-300.
+  251 if station 7 (class A) moves from 250 to one of 221-249, 253-300.
+
+$judged
+A station that moves was judged so too: its change of channel needs the exhibit of the note to 73.203.
+SAYS
+hold "arrange: at 25 km by Table A" [ "$("$fm" arrange one.fms A II 0 800 | sed -n 2p)" = '73 are free, 7 open by one move, 0 are shut.' ]
+hold "arrange --standard 2: nobody moves, nothing is said of a move" [ "$("$fm" arrange three.fms A II 0 0 --standard 2 | tail -n 4)" = "$judged" ]
+hold "arrange --standard 2 --raw: the rows" [ "$("$fm" arrange one.fms A II 0 800 --standard 2 --raw | wc -l)" -eq 308 ]
+# With a station left aside as well.
+try 0 check three.fms 299 C II -269999 647999 --aside 9 --standard 2 <<SAYS
+Channel 299 is not acceptable for class C in zone II at 74-59-59S 179-59-59E, even with contours protected:
+1 station is short.
+  station 4294967295 on 300 (class C)  is   0 km away and should be 209 km: short by 209 km under 73.215(e)
+$judged
+Station 9 was left aside, as if it were not in the table.
+Its old record must be withdrawn before the new one can be added.
+SAYS
+try 0 why --standard 2 --aside 4294967295 three.fms 299 C II -269999 647999 <<SAYS
+With contours protected, channel 299 is clear for class C in zone II at 74-59-59S 179-59-59E:
+no station is nearer than 47 CFR 73.215(e) asks, or on channels 53 or 54 apart 73.207.
+$judged
+Station 4294967295 was left aside, as if it were not in the table.
+Its old record must be withdrawn before the new one can be added.
+SAYS
+hold "arrange --aside --standard 2: both are said" [ "$("$fm" arrange at260.fms A I 0 0 --aside 7 --standard 2 | tail -n 6)" = "$judged
+Station 7 was left aside, as if it were not in the table.
+Its old record must be withdrawn before the new one can be added." ]
+# What is acceptable by 2 is refused by add and move, which go by Table A.
+try 1 add one.fms new.fms 9 250 A II 0 2960 <<'SAYS'
+fm: refused with number 20: on channel 250 it would be short to station 7 (channel 250, class A), record 0 of one.fms counted from 0, and perhaps to later ones. ./fm check lists all that are short, ./fm arrange the channels that fit.
+SAYS
+for words in 'check one.fms 250 A II 0 2959' 'check one.fms 250 A II 0 3703' 'arrange at260.fms A I 0 0' 'check three.fms 299 C II 0 0 --raw' 'arrange --raw three.fms A I 0 0' \
+    'why one.fms 250 A II 0 2959' 'why one.fms 250 A II 0 3703' 'why --raw one.fms 250 A II 0 0' 'check one.fms 250 A II 0 0 --aside 7' 'check one.fms 220 A II 0 0'; do
+    # shellcheck disable=SC2086
+    hold "fm $words --standard 1: as without it" [ "$("$fm" $words --standard 1 2>&1)" = "$("$fm" $words 2>&1)" ]
+    # shellcheck disable=SC2086
+    hold "fm --standard 01 $words: as without it" [ "$("$fm" --standard 01 $words 2>&1)" = "$("$fm" $words 2>&1)" ]
+done
+for words in 'check one.fms 250 A II 0 0' 'why one.fms 250 A II 0 0' 'arrange one.fms A II 0 0'; do
+    for word in two '' 0 00 3 -1 +1 1.0 12 21 4294967297 73.207 '1 2'; do
+        # shellcheck disable=SC2086
+        try 2 $words --standard "$word" <<SAYS
+fm: '$word' is no standard: the standards are 1 (Table A of 73.207) and 2 (73.215(e), for protected contours)
+SAYS
+    done
+    for last in --standard '--standard --raw' '--raw --standard' '--standard --aside 7'; do
+        # shellcheck disable=SC2086
+        try 2 $words $last <<'SAYS'
+fm: no number follows --standard: give 1 (Table A of 73.207) or 2 (73.215(e), for protected contours)
+SAYS
+    done
+    for twice in '--standard 1 --standard 1' '--standard 1 --standard 2' '--standard 2 --standard' '--standard --standard 2'; do
+        # shellcheck disable=SC2086
+        try 2 $words $twice <<'SAYS'
+fm: --standard is given more than once: a study goes by one standard
+SAYS
+    done
+    # shellcheck disable=SC2086
+    try 2 $words --aside --standard 2 <<'SAYS'
+fm: no id follows --aside: give that of the station to leave aside
+SAYS
+    # shellcheck disable=SC2086
+    try 1 $words --aside 8 --standard 2 <<'SAYS'
+fm: refused with number 23: no station of one.fms has id 8. ./fm show lists the ids.
+SAYS
+done
+for command in check why; do
+    try 1 "$command" one.fms 250 A II 75-00-01N 0 --standard 2 <<'SAYS'
+fm: refused with number 17: the site is out of range. Latitudes go from 75-00-00S to 75-00-00N, longitudes from 180-00-00W to 180-00-00E.
+SAYS
+    try 1 "$command" one.fms 220 A II 0 0 --standard 2 <<'SAYS'
+fm: refused with number 13: channel 220 cannot be asked for. Ask for one of 221 to 300.
+SAYS
+done
+for words in 'add one.fms new.fms 9 250 A II 0 3703' 'withdraw one.fms new.fms 7' 'move one.fms new.fms 7 260' 'distance 0 0 0 0' 'show one.fms' help 'help check'; do
+    for last in '--standard 1' '--standard 2' --standard '--standard 2 --standard 2'; do
+        # shellcheck disable=SC2086
+        try 2 $words $last <<SAYS
+fm: ${words%% *} has no --standard: only check, why and arrange choose one, and add and move go by 1
+SAYS
+    done
+done
+hold "--standard where it has no place writes nothing" absent new.fms
+try 2 chek --standard 2 <<'SAYS'
+fm: 'chek' is no command: ./fm help lists them
+SAYS
+try 2 check one.fms 250 A II 0 --standard 2 <<'SAYS'
+fm: wrong number of words for check (5, not 6): ./fm check TABLE CHANNEL CLASS ZONE LAT LON
+SAYS
+for words in 'check --standard' 'check --standard two' 'check --standard 2 --standard 2' 'why --standard 2' 'arrange --standard 2' 'show --standard 2'; do
+    # shellcheck disable=SC2086
+    hold "fm $words --help: --help wins" [ "$("$fm" $words --help)" = "$("$fm" help "${words%% *}")" ]
+done
+for words in help 'check --help' 'why --help' 'arrange --help'; do
+    # shellcheck disable=SC2086
+    hold "fm $words: --standard, and when 2 may be used" [ "$("$fm" $words | grep -c -e '^  --standard  ' -e '^Standards:$' -e '^  2  .*73\.215(e)')" -eq 3 ]
+done
+for command in add withdraw move distance show; do
+    hold "fm $command --help: no --standard" [ "$("$fm" "$command" --help | grep -c -i -e standard)" -eq 0 ]
+done
+
 # ---- show
 try 0 show empty.fms <<'SAYS'
 0 stations
@@ -540,7 +781,7 @@ SAYS
 try 0 check strait.fms 250 A II 51-52-00N 179-59-59E <<'SAYS'
 Channel 250 is not acceptable for class A in zone II at 51-52-00N 179-59-59E:
 1 station is short.
-  station 7 on 250 (class A)  is   0 km away and should be 115 km: short by 115 km
+  station 7 on 250 (class A)  is   0 km away and should be 115 km: short by 115 km under 73.207
 SAYS
 try 0 why strait.fms 251 A II 51-52-00N 179-30-00E <<'SAYS'
 Channel 251 is blocked for class A in zone II at 51-52-00N 179-30-00E.
@@ -747,6 +988,9 @@ SAYS
     try 1 arrange --aside 8 "$2" A II 0 0 <<SAYS
 fm: refused with number $1: $3. $anew
 SAYS
+    try 1 check --standard 2 "$2" 220 C I 0 0 <<SAYS
+fm: refused with number $1: $3. $anew
+SAYS
     try 1 withdraw "$2" new.fms 7 <<SAYS
 fm: refused with number $1: $3. $anew
 SAYS
@@ -844,7 +1088,7 @@ hold "a cut write: status 3" [ $? -eq 3 ]
 hold "a cut write leaves nothing" only folder
 if [ -c /dev/full ] && [ -w /dev/full ]; then
     for words in 'check one.fms 250 A II 0 0' 'arrange one.fms A II 0 0' 'check --raw one.fms 250 A II 0 0' 'check one.fms 250 A II 0 0 --aside 7' \
-        'arrange one.fms A II 0 0 --aside 7' 'why one.fms 250 A II 0 0' 'show one.fms' 'distance 0 0 0 1' help 'help check'; do
+        'arrange one.fms A II 0 0 --aside 7' 'why one.fms 250 A II 0 0' 'check one.fms 250 A II 0 0 --standard 2' 'show one.fms' 'distance 0 0 0 1' help 'help check'; do
         # shellcheck disable=SC2086
         "$fm" $words >/dev/full 2>said </dev/null
         hold "fm $words: status 3 on a full output" [ $? -eq 3 ]
@@ -1040,14 +1284,15 @@ SAYS
     done
 }
 no_answer fm_check 'check one.fms 250 A II 0 0' 'echo hello' 'echo short 1' 'echo short 0; echo 7 1 2' 'echo short 1; echo 8 1 2' ':' \
-    'echo refused 26 0' 'echo refused 13' 'echo refused x 0'
+    'echo refused 27 0' 'echo refused 13' 'echo refused x 0'
 no_answer fm_check 'check bad1-empty.fms 250 A II 0 0' 'echo refused 3 0' 'echo refused 5 0'
 answers fm_check 'exit 7'
 try 3 check one.fms 250 A II 0 0 <<'SAYS'
 fm: fm_check ended with status 7 and gave no answer
 SAYS
-no_answer fm_reason 'why one.fms 250 A II 0 0' 'echo hello' 'echo short 0' 'echo 7 1 2' 'echo 8 1 2 0' 'echo 7 1 2 4' 'echo 7 1 2 0 0' \
-    'echo 7 1 2 0; echo 7 1 2 0' 'echo clear; echo clear' 'echo clear; echo 7 1 2 0' ':' 'echo refused 26 0'
+no_answer fm_reason 'why one.fms 250 A II 0 0' 'echo hello' 'echo short 0' 'echo 7 1 2 0' 'echo 8 1 2 0 1' 'echo 7 1 2 4 1' 'echo 7 1 2 0 1 0' \
+    'echo 7 1 2 0 2' 'echo 7 1 2 0 0' 'echo 7 1 2 0 1; echo 7 1 2 0 1' 'echo clear; echo clear' 'echo clear; echo 7 1 2 0 1' ':' 'echo refused 27 0'
+no_answer fm_reason 'why one.fms 250 A II 0 0 --standard 2' 'echo 7 1 2 0 1' 'echo 7 1 2 0' 'echo clear 2'
 answers fm_reason 'exit 7'
 try 3 why one.fms 250 A II 0 0 --raw <<'SAYS'
 fm: fm_reason ended with status 7 and gave no answer
@@ -1075,8 +1320,24 @@ try 1 check one.fms 250 A II 0 0 <<'SAYS'
 fm: refused with number 24: the sites are more than 475 km apart, where the distance method of 73.208 does not hold.
 SAYS
 no_answer fm_study 'distance 0 0 0 0' 'echo hello' 'echo 476' 'echo -1' 'echo 1; echo 2' ':' 'echo refused 1 0' 'echo refused 20 0' 'echo refused 24'
-no_answer fm_study 'check one.fms 250 A II 0 0 --aside 7' 'echo hello' 'echo 475' 'echo short 1' ':' 'echo refused 26 0'
+no_answer fm_study 'check one.fms 250 A II 0 0 --aside 7' 'echo hello' 'echo 475' 'echo short 1' ':' 'echo refused 27 0'
+no_answer fm_study 'check one.fms 250 A II 0 0 --standard 2' 'echo short 1' 'echo short 1; echo 8 1 2' 'echo refused 27 0'
 no_answer fm_study 'arrange one.fms A II 0 0 --aside 7' 'echo 301 0 0'
+no_answer fm_study 'arrange one.fms A II 0 0 --standard 2' 'echo 301 0 0' 'echo 250 8 251'
+answers fm_study 'echo refused 26 0'
+for words in 'check one.fms 250 A II 0 0 --standard 2' 'arrange one.fms A II 0 0 --standard 2'; do
+    # shellcheck disable=SC2086
+    try 1 $words <<'SAYS'
+fm: refused with number 26: the standard is neither 1 nor 2. Give 1 (Table A of 73.207) or 2 (73.215(e), for protected contours).
+SAYS
+done
+answers fm_reason 'echo refused 26 0'
+try 1 why one.fms 250 A II 0 0 <<'SAYS'
+fm: refused with number 26: the standard is neither 1 nor 2. Give 1 (Table A of 73.207) or 2 (73.215(e), for protected contours).
+SAYS
+try 1 why one.fms 250 A II 0 0 --raw <<'SAYS'
+refused 26 0
+SAYS
 answers fm_study 'exit 7'
 try 3 arrange one.fms A II 0 0 --aside 7 <<'SAYS'
 fm: fm_study ended with status 7 and gave no answer
@@ -1142,17 +1403,27 @@ sees '0 250 0 2 0 0 0 0 0 0 0 0' 250 A I-A 0 0
 sees '255 255 0 3 127 255 255 255 128 0 0 0' 65535 A II 2147483647 -2147483648
 sees '0 0 0 3 0 2 61 6 255 251 239 147' 0 A II 40-44-54N 073-59-09W
 sees '1 44 0 3 255 255 255 255 0 0 0 1' 300 A II 00-00-01S 000-00-01E
-# With a station left aside fm_study gets the letter, the id, and then the bytes of the other program; with 0 that program is asked.
-keeps fm_study 17 "[ \"\$(printf '%s' \"\$seen\" | sed 's/^ \([0-9]*\).*/\1/')\" = 97 ] || echo short 0"
-sees '99 255 255 255 254 0 250 7 3 127 255 255 255 128 0 0 0' 250 C II 2147483647 -2147483648 --aside 4294967294
-sees '99 0 0 0 7 1 44 0 1 255 255 255 255 0 0 0 1' --aside 7 300 A I 00-00-01S 000-00-01E
+# With a station left aside or by standard 2 fm_study gets the letter, the id or 0, the standard, and then the bytes of the other
+# program; with the id 0 and by standard 1 that program is asked.
+keeps fm_study 18 "[ \"\$(printf '%s' \"\$seen\" | sed 's/^ \([0-9]*\).*/\1/')\" = 97 ] || echo short 0"
+sees '99 255 255 255 254 1 0 250 7 3 127 255 255 255 128 0 0 0' 250 C II 2147483647 -2147483648 --aside 4294967294
+sees '99 0 0 0 7 1 1 44 0 1 255 255 255 255 0 0 0 1' --aside 7 300 A I 00-00-01S 000-00-01E
+sees '99 0 0 0 7 2 1 44 0 1 255 255 255 255 0 0 0 1' --aside 7 300 A I 00-00-01S 000-00-01E --standard 2
+sees '99 0 0 0 0 2 0 250 7 3 127 255 255 255 128 0 0 0' 250 C II 2147483647 --standard 02 -2147483648
+sees '99 0 0 0 0 2 0 250 0 2 0 0 0 0 0 0 0 0' --standard 2 250 A I-A 0 0 --aside 0
 sees '0 250 0 2 0 0 0 0 0 0 0 0' 250 A I-A 0 0 --aside 0
-gives '97 0 1 0 0 2 2 0 0 0 1 255 255 255 254 70 77' arrange one.fms B I-A 1 -2 --aside 65536
-# fm_reason gets the bytes of fm_check, the id left aside or 0, and then the table.
-keeps fm_reason 18 'echo clear'
-gives '0 250 7 3 127 255 255 255 128 0 0 0 0 0 0 0 70 77' why one.fms 250 C II 2147483647 -2147483648
-gives '1 44 1 1 255 255 255 255 0 0 0 1 255 255 255 254 70 77' why one.fms 300 B1 I -1 1 --aside 4294967294
-gives '0 0 0 2 0 2 61 6 255 251 239 147 0 0 0 0 70 77' why one.fms 0 A I-A 40-44-54N 073-59-09W --aside 0
+sees '0 250 0 2 0 0 0 0 0 0 0 0' 250 A I-A 0 0 --standard 1
+sees '0 250 0 2 0 0 0 0 0 0 0 0' 250 A --standard 1 I-A 0 0 --aside 0
+gives '97 0 1 0 0 1 2 2 0 0 0 1 255 255 255 254 70 77' arrange one.fms B I-A 1 -2 --aside 65536
+gives '97 0 1 0 0 2 2 2 0 0 0 1 255 255 255 254 70 77' arrange one.fms B I-A 1 -2 --aside 65536 --standard 2
+gives '97 0 0 0 0 2 2 2 0 0 0 1 255 255 255 254 70 77' arrange --standard 2 one.fms B I-A 1 -2
+# fm_reason gets the bytes of fm_check, the id left aside or 0, the standard, and then the table.
+keeps fm_reason 19 'echo clear'
+gives '0 250 7 3 127 255 255 255 128 0 0 0 0 0 0 0 1 70 77' why one.fms 250 C II 2147483647 -2147483648
+gives '0 250 7 3 127 255 255 255 128 0 0 0 0 0 0 0 1 70 77' why one.fms 250 C II 2147483647 -2147483648 --standard 1
+gives '1 44 1 1 255 255 255 255 0 0 0 1 255 255 255 254 1 70 77' why one.fms 300 B1 I -1 1 --aside 4294967294
+gives '1 44 1 1 255 255 255 255 0 0 0 1 255 255 255 254 2 70 77' why one.fms 300 B1 I -1 1 --standard 2 --aside 4294967294
+gives '0 0 0 2 0 2 61 6 255 251 239 147 0 0 0 0 2 70 77' why one.fms 0 A I-A 40-44-54N 073-59-09W --aside 0 --standard 2
 keeps fm_study 99 'echo 475'
 try 0 distance 40-44-54N 073-59-09W -1 2147483647 <<'SAYS'
 40-44-54N 073-59-09W and 00-00-01S 596523-14-07E are 475 km apart by 47 CFR 73.208.

@@ -41,6 +41,7 @@ extern "C" {
         lat: i32,
         lon: i32,
         aside: u32,
+        standard: u32,
         rows: *mut u32,
         rows_len: usize,
     ) -> u64;
@@ -54,6 +55,7 @@ extern "C" {
         lat: i32,
         lon: i32,
         aside: u32,
+        standard: u32,
         rows: *mut u32,
         rows_len: usize,
     ) -> u64;
@@ -66,6 +68,7 @@ extern "C" {
         lat: i32,
         lon: i32,
         aside: u32,
+        standard: u32,
         reason: *mut u32,
     ) -> u64;
     fn fms_limit(a: u32, b: u32, column: u32) -> u64;
@@ -110,7 +113,7 @@ pub fn ask(question: &Question, table: &[u8], lent: Lent) -> Answer {
             Question::Check {
                 channel,
                 proposal: p,
-                aside,
+                terms,
             } => fms_check(
                 table,
                 table_len,
@@ -119,7 +122,8 @@ pub fn ask(question: &Question, table: &[u8], lent: Lent) -> Answer {
                 p.zone,
                 p.lat,
                 p.lon,
-                aside,
+                terms.aside,
+                terms.standard,
                 rows,
                 rows_len,
             ),
@@ -127,7 +131,7 @@ pub fn ask(question: &Question, table: &[u8], lent: Lent) -> Answer {
                 first,
                 last,
                 proposal: p,
-                aside,
+                terms,
             } => fms_arrange(
                 table,
                 table_len,
@@ -137,14 +141,15 @@ pub fn ask(question: &Question, table: &[u8], lent: Lent) -> Answer {
                 p.zone,
                 p.lat,
                 p.lon,
-                aside,
+                terms.aside,
+                terms.standard,
                 rows,
                 rows_len,
             ),
             Question::Reason {
                 channel,
                 proposal: p,
-                aside,
+                terms,
             } => fms_reason(
                 table,
                 table_len,
@@ -153,7 +158,8 @@ pub fn ask(question: &Question, table: &[u8], lent: Lent) -> Answer {
                 p.zone,
                 p.lat,
                 p.lon,
-                aside,
+                terms.aside,
+                terms.standard,
                 reason,
             ),
         }

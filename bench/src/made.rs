@@ -139,10 +139,11 @@ pub enum Manner {
     Ends,
     /// Mostly on channels up to 220, and on those 53 and 54 above.
     Low,
-    /// On few channels at few sites, at the distances of Table A.
+    /// On few channels at few sites, at the distances of Table A and of the lesser table.
     Limits,
-    /// So far inside of these that they are short to a class A proposal on `LEVEL` by the same in whole km, and some by one more.
-    Level,
+    /// So far inside of those of a standard that they are short to a class A proposal on `LEVEL` by the same in whole km, and some
+    /// by one more.
+    Level(u32),
     /// On both sides of the 180th meridian and on it, at any latitude.
     Meridian,
 }
@@ -154,14 +155,15 @@ pub const LEVEL: u32 = 260;
 pub const DIFFERENCES: [(usize, u32); 6] = [(0, 0), (1, 1), (2, 2), (2, 3), (3, 53), (3, 54)];
 
 /// Every manner.
-pub const MANNERS: [Manner; 8] = [
+pub const MANNERS: [Manner; 9] = [
     Manner::Region,
     Manner::Cluster,
     Manner::Lone,
     Manner::Ends,
     Manner::Low,
     Manner::Limits,
-    Manner::Level,
+    Manner::Level(1),
+    Manner::Level(2),
     Manner::Meridian,
 ];
 
@@ -245,13 +247,13 @@ pub fn scene_of(chance: &mut Chance, manner: Manner, count: usize) -> Scene {
             for station in &mut stations {
                 let column = chance.from(0, 3) as usize;
                 let class = chance.from(0, 7) as u32;
-                let km = km(class, station.class, column);
+                let km = km(chance.one_of(&[1, 2]), class, station.class, column);
                 let more = chance.from(-1, 2);
                 set_off(chance, station, 10_000 * i64::from(km) - 5_000, more);
             }
             Scene { stations, area }
         }
-        Manner::Level => {
+        Manner::Level(standard) => {
             let lon = at_times_near_the_meridian(chance, lon);
             let area = Area::around(lat, lon, 0);
             let mut stations = spread(chance, count, area, 201, 300);
@@ -264,7 +266,7 @@ pub fn scene_of(chance: &mut Chance, manner: Manner, count: usize) -> Scene {
                     LEVEL - difference
                 };
                 let shortfall = shortfall + u32::from(chance.once_in(3));
-                let km = km(0, station.class, column).saturating_sub(shortfall);
+                let km = km(standard, 0, station.class, column).saturating_sub(shortfall);
                 let decimetres = 10_000 * i64::from(km) + chance.from(-4_500, 4_500);
                 set_off(chance, station, decimetres, 0);
             }
@@ -311,6 +313,15 @@ fn set_off(chance: &mut Chance, station: &mut Station, decimetres: i64, more: i6
         station.lat = (station.lat + seconds as i32).clamp(-270_000, 270_000);
     } else {
         station.lon = wrapped(i64::from(station.lon) + seconds) as i32;
+    }
+}
+
+/// A standard: mostly one of the two, now and then a number that is none, also one that is if it is cut to fewer bits.
+pub fn standard(chance: &mut Chance) -> u32 {
+    if chance.once_in(12) {
+        chance.one_of(&[0, 3, 256, 257, 258, 65_537, u32::MAX])
+    } else {
+        chance.one_of(&[1, 2])
     }
 }
 

@@ -1,6 +1,6 @@
 //! The eight questions, and the limit, as the papers say them, in the plainest words and wide numbers.
 
-use crate::question::{Answer, Lent, Proposal, Question};
+use crate::question::{Answer, Lent, Proposal, Question, Terms};
 use std::cmp::Reverse;
 use std::ops::RangeInclusive;
 
@@ -81,23 +81,83 @@ const TABLE_A: [(u32, u32, [u32; 4]); 36] = [
     (C, C, [290, 241, 105, 48]),
 ];
 
-/// The km of Table A for two classes in any order, at a column.
-pub fn km(a: u32, b: u32, column: usize) -> u32 {
-    for (first, second, columns) in TABLE_A {
-        if (first, second) == (a, b) || (first, second) == (b, a) {
-            return columns[column];
+/// The lesser table of §73.215(e): the km of co-channel, 200 kHz and 400/600 kHz for each relation.
+const LESSER: [(u32, u32, [u32; 3]); 36] = [
+    (A, A, [92, 49, 25]),
+    (A, B1, [119, 72, 42]),
+    (A, B, [143, 96, 63]),
+    (A, C3, [119, 72, 36]),
+    (A, C2, [143, 89, 49]),
+    (A, C1, [178, 111, 69]),
+    (A, C0, [193, 130, 80]),
+    (A, C, [203, 142, 89]),
+    (B1, B1, [143, 96, 44]),
+    (B1, B, [178, 114, 65]),
+    (B1, C3, [143, 96, 44]),
+    (B1, C2, [175, 114, 50]),
+    (B1, C1, [200, 134, 71]),
+    (B1, C0, [215, 153, 81]),
+    (B1, C, [233, 165, 99]),
+    (B, B, [211, 145, 68]),
+    (B, C3, [178, 114, 65]),
+    (B, C2, [211, 145, 68]),
+    (B, C1, [241, 169, 73]),
+    (B, C0, [266, 195, 83]),
+    (B, C, [268, 195, 99]),
+    (C3, C3, [142, 89, 37]),
+    (C3, C2, [166, 106, 50]),
+    (C3, C1, [200, 133, 70]),
+    (C3, C0, [215, 152, 81]),
+    (C3, C, [226, 165, 90]),
+    (C2, C2, [177, 117, 52]),
+    (C2, C1, [211, 144, 73]),
+    (C2, C0, [227, 163, 83]),
+    (C2, C, [237, 176, 96]),
+    (C1, C1, [224, 158, 76]),
+    (C1, C0, [239, 176, 88]),
+    (C1, C, [249, 188, 99]),
+    (C0, C0, [259, 196, 90]),
+    (C0, C, [270, 207, 99]),
+    (C, C, [270, 209, 99]),
+];
+
+/// The km that a table lists for two classes in any order, at a column, where it lists them.
+fn listed<const COLUMNS: usize>(
+    table: &[(u32, u32, [u32; COLUMNS])],
+    a: u32,
+    b: u32,
+    column: usize,
+) -> Option<u32> {
+    for (first, second, columns) in table {
+        if (*first, *second) == (a, b) || (*first, *second) == (b, a) {
+            return columns.get(column).copied();
         }
     }
-    unreachable!("every pair of classes stands in Table A")
+    None
 }
 
-/// The limit that S is held to for two classes in any order, at a column: (10,000 R - 5,000)², in square decimetres; 0 where there
-/// is no such class or column.
+/// The standard of Table A, and that of the lesser table.
+const BY_TABLE_A: u32 = 1;
+const BY_LESSER: u32 = 2;
+
+/// The km of a standard for two classes in any order, at a column; what the lesser table does not list keeps its Table A value.
+pub fn km(standard: u32, a: u32, b: u32, column: usize) -> u32 {
+    let lesser = match standard {
+        BY_LESSER => listed(&LESSER, a, b, column),
+        _ => None,
+    };
+    lesser
+        .or_else(|| listed(&TABLE_A, a, b, column))
+        .expect("every pair of classes stands in Table A")
+}
+
+/// The limit of Table A that S is held to for two classes in any order, at a column: (10,000 R - 5,000)², in square decimetres; 0
+/// where there is no such class or column.
 pub fn limit(a: u32, b: u32, column: u32) -> u64 {
     if a > 7 || b > 7 || column > 3 {
         return 0;
     }
-    let decimetres = 10_000 * i128::from(km(a, b, column as usize)) - 5_000;
+    let decimetres = 10_000 * i128::from(km(BY_TABLE_A, a, b, column as usize)) - 5_000;
     (decimetres * decimetres) as u64
 }
 
@@ -166,7 +226,7 @@ fn kilometres(a: &Station, b: &Station) -> u32 {
     rounded(squared(a.lat, a.lon, b.lat, b.lon))
 }
 
-/// The column of Table A by which two stations have a requirement, where they have one.
+/// The column by which two stations have a requirement, where they have one.
 fn column(a: &Station, b: &Station) -> Option<usize> {
     if a.channel <= 220 && b.channel <= 220 {
         return None;
@@ -180,17 +240,17 @@ fn column(a: &Station, b: &Station) -> Option<usize> {
     }
 }
 
-/// Why one station is blocked by another, where D is below R: id, D, R and column.
-fn blocked_by(one: &Station, other: &Station) -> Option<[u32; 4]> {
+/// Why one station is blocked by another by a standard, where D is below R: id, D, R and column.
+fn blocked_by(one: &Station, other: &Station, standard: u32) -> Option<[u32; 4]> {
     let column = column(one, other)?;
     let d = kilometres(one, other);
-    let r = km(one.class, other.class, column);
+    let r = km(standard, one.class, other.class, column);
     (d < r).then_some([other.id, d, r, column as u32])
 }
 
-/// Two stations are short: D is below R.
-pub fn short(a: &Station, b: &Station) -> bool {
-    blocked_by(a, b).is_some()
+/// Two stations are short by a standard: D is below R.
+pub fn short(a: &Station, b: &Station, standard: u32) -> bool {
+    blocked_by(a, b, standard).is_some()
 }
 
 fn site_in_range(lat: i32, lon: i32) -> bool {
@@ -294,8 +354,8 @@ pub fn image_in(version: u16, stations: &[Station]) -> Vec<u8> {
     image
 }
 
-/// The checks 13 to 17 of what is asked.
-fn judge_proposal(first: u32, last: u32, proposal: &Proposal) -> Result<(), Refusal> {
+/// The checks 13 to 16 of what is asked.
+fn judge_asked(first: u32, last: u32, proposal: &Proposal) -> Result<(), Refusal> {
     judge_channel(first)?;
     judge_channel(last)?;
     if first > last {
@@ -312,7 +372,18 @@ fn judge_proposal(first: u32, last: u32, proposal: &Proposal) -> Result<(), Refu
     if !permitted.contains(&proposal.station_class) {
         return refuse(16, 0);
     }
-    if !site_in_range(proposal.lat, proposal.lon) {
+    Ok(())
+}
+
+fn judge_standard(standard: u32) -> Result<(), Refusal> {
+    if ![BY_TABLE_A, BY_LESSER].contains(&standard) {
+        return refuse(26, 0);
+    }
+    Ok(())
+}
+
+fn judge_site(lat: i32, lon: i32) -> Result<(), Refusal> {
+    if !site_in_range(lat, lon) {
         return refuse(17, 0);
     }
     Ok(())
@@ -337,10 +408,15 @@ fn proposed(id: u32, channel: u32, proposal: &Proposal) -> Station {
     }
 }
 
-/// The positions of the stations that are short to one, a position left out.
-fn short_to(stations: &[Station], one: &Station, left_out: Option<usize>) -> Vec<usize> {
+/// The positions of the stations that are short to one by a standard, a position left out.
+fn short_to(
+    stations: &[Station],
+    one: &Station,
+    left_out: Option<usize>,
+    standard: u32,
+) -> Vec<usize> {
     (0..stations.len())
-        .filter(|&i| Some(i) != left_out && short(one, &stations[i]))
+        .filter(|&i| Some(i) != left_out && short(one, &stations[i], standard))
         .collect()
 }
 
@@ -350,7 +426,8 @@ fn position_of(stations: &[Station], id: u32) -> Option<usize> {
 
 fn added(table: &[u8], id: u32, channel: u32, proposal: &Proposal) -> Result<Vec<u8>, Refusal> {
     let mut stations = judge(table)?;
-    judge_proposal(channel, channel, proposal)?;
+    judge_asked(channel, channel, proposal)?;
+    judge_site(proposal.lat, proposal.lon)?;
     if id == 0 {
         return refuse(18, 0);
     }
@@ -358,7 +435,7 @@ fn added(table: &[u8], id: u32, channel: u32, proposal: &Proposal) -> Result<Vec
         return refuse(19, position);
     }
     let station = proposed(id, channel, proposal);
-    if let Some(&position) = short_to(&stations, &station, None).first() {
+    if let Some(&position) = short_to(&stations, &station, None, BY_TABLE_A).first() {
         return refuse(20, position);
     }
     if stations.len() == LIMIT {
@@ -388,7 +465,9 @@ fn moved(table: &[u8], id: u32, channel: u32) -> Result<Vec<u8>, Refusal> {
         return refuse(25, position);
     }
     stations[position].channel = channel;
-    if let Some(&other) = short_to(&stations, &stations[position], Some(position)).first() {
+    if let Some(&other) =
+        short_to(&stations, &stations[position], Some(position), BY_TABLE_A).first()
+    {
         return refuse(20, other);
     }
     Ok(image_of(&stations))
@@ -400,14 +479,16 @@ fn studied(
     first: u32,
     last: u32,
     proposal: &Proposal,
-    aside: u32,
+    terms: &Terms,
 ) -> Result<Vec<Station>, Refusal> {
     let mut stations = judge(table)?;
-    judge_proposal(first, last, proposal)?;
-    if aside == 0 {
+    judge_asked(first, last, proposal)?;
+    judge_standard(terms.standard)?;
+    judge_site(proposal.lat, proposal.lon)?;
+    if terms.aside == 0 {
         return Ok(stations);
     }
-    let Some(position) = position_of(&stations, aside) else {
+    let Some(position) = position_of(&stations, terms.aside) else {
         return refuse(23, 0);
     };
     stations.remove(position);
@@ -419,13 +500,13 @@ fn blockers(
     table: &[u8],
     channel: u32,
     proposal: &Proposal,
-    aside: u32,
+    terms: &Terms,
 ) -> Result<Vec<[u32; 4]>, Refusal> {
-    let stations = studied(table, channel, channel, proposal, aside)?;
+    let stations = studied(table, channel, channel, proposal, terms)?;
     let new = proposed(0, channel, proposal);
     Ok(stations
         .iter()
-        .filter_map(|station| blocked_by(&new, station))
+        .filter_map(|station| blocked_by(&new, station, terms.standard))
         .collect())
 }
 
@@ -457,13 +538,13 @@ fn arranged(
     first: u32,
     last: u32,
     proposal: &Proposal,
-    aside: u32,
+    terms: &Terms,
 ) -> Result<Vec<u32>, Refusal> {
-    let stations = studied(table, first, last, proposal, aside)?;
+    let stations = studied(table, first, last, proposal, terms)?;
     let mut rows = Vec::new();
     for channel in first..=last {
         let new = proposed(0, channel, proposal);
-        let blockers = short_to(&stations, &new, None);
+        let blockers = short_to(&stations, &new, None, terms.standard);
         if blockers.is_empty() {
             rows.extend([channel, 0, 0]);
             continue;
@@ -478,8 +559,8 @@ fn arranged(
                     ..*station
                 };
                 if moved_channel != station.channel
-                    && !short(&new, &moved)
-                    && short_to(&stations, &moved, Some(position)).is_empty()
+                    && !short(&new, &moved, terms.standard)
+                    && short_to(&stations, &moved, Some(position), terms.standard).is_empty()
                 {
                     rows.extend([channel, station.id, moved_channel]);
                 }
@@ -491,9 +572,8 @@ fn arranged(
 
 /// The rounded distance between two sites, up to 475 km.
 fn distant(lat1: i32, lon1: i32, lat2: i32, lon2: i32) -> Result<u32, Refusal> {
-    if !site_in_range(lat1, lon1) || !site_in_range(lat2, lon2) {
-        return refuse(17, 0);
-    }
+    judge_site(lat1, lon1)?;
+    judge_site(lat2, lon2)?;
     let d = rounded(squared(lat1, lon1, lat2, lon2));
     if d > 475 {
         return refuse(24, 0);
@@ -540,22 +620,22 @@ pub fn ask(question: &Question, table: &[u8], lent: Lent) -> Answer {
         Question::Check {
             channel,
             proposal,
-            aside,
+            terms,
         } => {
-            let blockers = blockers(table, *channel, proposal, *aside);
+            let blockers = blockers(table, *channel, proposal, terms);
             delivered(blockers.map(checked), lent.rows)
         }
         Question::Arrange {
             first,
             last,
             proposal,
-            aside,
-        } => delivered(arranged(table, *first, *last, proposal, *aside), lent.rows),
+            terms,
+        } => delivered(arranged(table, *first, *last, proposal, terms), lent.rows),
         Question::Reason {
             channel,
             proposal,
-            aside,
-        } => blockers(table, *channel, proposal, *aside)
+            terms,
+        } => blockers(table, *channel, proposal, terms)
             .map(|blockers| told(reason(blockers), table, lent.reason)),
     };
     match outcome {

@@ -9,6 +9,21 @@ pub struct Proposal {
     pub lon: i32,
 }
 
+/// On what terms a table is studied.
+#[derive(Clone, Copy, Debug, PartialEq, Eq)]
+pub struct Terms {
+    /// The id of the station that is left aside, 0 for none.
+    pub aside: u32,
+    /// By which separations: 1 for Table A, 2 for the lesser table of §73.215(e).
+    pub standard: u32,
+}
+
+impl Terms {
+    pub const fn new(aside: u32, standard: u32) -> Terms {
+        Terms { aside, standard }
+    }
+}
+
 /// One of the eight questions, but for the table and the lent buffers.
 #[derive(Clone, Copy, Debug, PartialEq, Eq)]
 pub enum Question {
@@ -34,38 +49,44 @@ pub enum Question {
     Check {
         channel: u32,
         proposal: Proposal,
-        /// The id of the station that is left aside, 0 for none.
-        aside: u32,
+        terms: Terms,
     },
     Arrange {
         first: u32,
         last: u32,
         proposal: Proposal,
-        /// As in Check.
-        aside: u32,
+        terms: Terms,
     },
     Reason {
         channel: u32,
         proposal: Proposal,
-        /// As in Check.
-        aside: u32,
+        terms: Terms,
     },
 }
 
 impl Question {
-    pub fn check(channel: u32, proposal: Proposal, aside: u32) -> Question {
+    pub fn check(channel: u32, proposal: Proposal, terms: Terms) -> Question {
         Question::Check {
             channel,
             proposal,
-            aside,
+            terms,
         }
     }
 
-    pub fn reason(channel: u32, proposal: Proposal, aside: u32) -> Question {
+    pub fn arrange(first: u32, last: u32, proposal: Proposal, terms: Terms) -> Question {
+        Question::Arrange {
+            first,
+            last,
+            proposal,
+            terms,
+        }
+    }
+
+    pub fn reason(channel: u32, proposal: Proposal, terms: Terms) -> Question {
         Question::Reason {
             channel,
             proposal,
-            aside,
+            terms,
         }
     }
 

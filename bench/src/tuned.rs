@@ -2,7 +2,7 @@
 //! subtraction and one comparison: by their latitude alone, or, with `BOX`, by a box of latitudes and longitudes around the site,
 //! also where it lies across the 180th meridian. Records are judged and passed over one a turn, and with `BOX` four.
 
-use crate::question::{Answer, Lent, Proposal, Question};
+use crate::question::{Answer, Lent, Proposal, Question, Terms};
 
 const HEADER: usize = 8;
 const RECORD: usize = 16;
@@ -54,6 +54,58 @@ const TABLE_A: [[u16; 4]; 36] = [
     [290, 241, 105, 48],
 ];
 
+/// The lesser table of §73.215(e) in the same order, one row of three: the fourth column keeps its Table A value.
+const LESSER: [[u16; 3]; 36] = [
+    [92, 49, 25],
+    [119, 72, 42],
+    [143, 96, 63],
+    [119, 72, 36],
+    [143, 89, 49],
+    [178, 111, 69],
+    [193, 130, 80],
+    [203, 142, 89],
+    [143, 96, 44],
+    [178, 114, 65],
+    [143, 96, 44],
+    [175, 114, 50],
+    [200, 134, 71],
+    [215, 153, 81],
+    [233, 165, 99],
+    [211, 145, 68],
+    [178, 114, 65],
+    [211, 145, 68],
+    [241, 169, 73],
+    [266, 195, 83],
+    [268, 195, 99],
+    [142, 89, 37],
+    [166, 106, 50],
+    [200, 133, 70],
+    [215, 152, 81],
+    [226, 165, 90],
+    [177, 117, 52],
+    [211, 144, 73],
+    [227, 163, 83],
+    [237, 176, 96],
+    [224, 158, 76],
+    [239, 176, 88],
+    [249, 188, 99],
+    [259, 196, 90],
+    [270, 207, 99],
+    [270, 209, 99],
+];
+
+/// Table A with the columns that the lesser table lists put in their places.
+const fn lesser() -> [[u16; 4]; 36] {
+    let mut table = TABLE_A;
+    let mut row = 0;
+    while row < 36 {
+        let [co_channel, first, second_and_third] = LESSER[row];
+        table[row] = [co_channel, first, second_and_third, table[row][3]];
+        row += 1;
+    }
+    table
+}
+
 /// A separation in km, the square that S is held against, and the seconds of latitude that alone are enough.
 #[derive(Clone, Copy)]
 struct Limit {
@@ -84,16 +136,22 @@ const fn decimetres(km: u32) -> u64 {
 /// The limits of one class: by the other class, then by column. Class C, the last, reaches farthest.
 type Limits = [[Limit; 4]; 8];
 
-/// The limits of every class.
-static LIMITS: [Limits; 8] = limits();
+/// The limits of every class by one table.
+type Standard = [Limits; 8];
 
-const fn limits() -> [Limits; 8] {
+/// By Table A, as Add and Move always go.
+static BY_TABLE_A: Standard = limits(&TABLE_A);
+
+/// By the lesser table.
+static BY_LESSER: Standard = limits(&lesser());
+
+const fn limits(separations: &[[u16; 4]; 36]) -> Standard {
     let mut table = [[[Limit::of(1); 4]; 8]; 8];
     let (mut row, mut low, mut high) = (0, 0, 0);
     while row < 36 {
         let mut column = 0;
         while column < 4 {
-            let limit = Limit::of(TABLE_A[row][column] as u32);
+            let limit = Limit::of(separations[row][column] as u32);
             table[low][high][column] = limit;
             table[high][low][column] = limit;
             column += 1;
@@ -109,9 +167,10 @@ const fn limits() -> [Limits; 8] {
     table
 }
 
-/// The square that S is held against for two classes in any order, at a column; 0 where there is no such class or column.
+/// The square that S is held against by Table A, for two classes in any order, at a column; 0 where there is no such class or
+/// column.
 pub fn limit(a: u32, b: u32, column: u32) -> u64 {
-    LIMITS
+    BY_TABLE_A
         .get(a as usize)
         .and_then(|limits| limits.get(b as usize))
         .and_then(|columns| columns.get(column as usize))
@@ -292,8 +351,8 @@ fn fault(record: &Record, before: u32) -> u32 {
     }
 }
 
-/// The checks 13 to 17 of what is asked.
-fn judge_proposal(first: u32, last: u32, proposal: &Proposal) -> Outcome<()> {
+/// The checks 13 to 16 of what is asked.
+fn judge_asked(first: u32, last: u32, proposal: &Proposal) -> Outcome<()> {
     if first < 221 || last > 300 || first > last {
         return Err(refusal(13, 0));
     }
@@ -311,7 +370,7 @@ fn judge_proposal(first: u32, last: u32, proposal: &Proposal) -> Outcome<()> {
     if permitted >> proposal.station_class & 1 == 0 {
         return Err(refusal(16, 0));
     }
-    judge_site(proposal.lat, proposal.lon)
+    Ok(())
 }
 
 fn judge_site(lat: i32, lon: i32) -> Outcome<()> {
@@ -418,28 +477,28 @@ fn next<const TURN: usize>(
     position + last.iter().take_while(|record| passed(record)).count()
 }
 
-/// A class at a site.
+/// The limits of a class at a site.
 #[derive(Clone, Copy)]
 struct Place {
-    class: usize,
+    limits: &'static Limits,
     lat: i32,
     lon: i32,
 }
 
 impl Place {
     /// Where a station is proposed.
-    fn of(proposal: &Proposal) -> Place {
+    fn of(proposal: &Proposal, standard: &'static Standard) -> Place {
         Place {
-            class: proposal.station_class as usize & 7,
+            limits: &standard[proposal.station_class as usize & 7],
             lat: proposal.lat,
             lon: proposal.lon,
         }
     }
 
     /// Where a record stands.
-    fn at(record: &Record) -> Place {
+    fn at(record: &Record, standard: &'static Standard) -> Place {
         Place {
-            class: class(record),
+            limits: &standard[class(record)],
             lat: lat(record),
             lon: lon(record),
         }
@@ -496,8 +555,7 @@ struct Lookout<const BOX: bool> {
 }
 
 impl<const BOX: bool> Lookout<BOX> {
-    fn new(Place { class, lat, lon }: Place) -> Self {
-        let limits = &LIMITS[class];
+    fn new(Place { limits, lat, lon }: Place) -> Self {
         let scale = least_scale(lat);
         let east = |km| (decimetres(km) * 3_600_000 / scale) as u32;
         Lookout {
@@ -564,22 +622,27 @@ impl<const BOX: bool> Lookout<BOX> {
         };
         Some(Reach { band, far })
     }
+}
 
-    /// The channels of 221 to 300 that the others block for a station here that stands at a position of the table, with one
-    /// position left aside.
-    #[inline(never)]
-    fn blocked(&self, records: &[Record], own: usize, aside: usize) -> Channels {
-        let mut blocked = 0;
-        for (position, record) in walk::<BOX>(records, |record| self.spaced(record, 0)) {
-            if position == own || position == aside {
-                continue;
-            }
-            if let Some(reach) = self.reach(record) {
-                blocked |= reach.around(by_channel(record));
-            }
+/// The channels of 221 to 300 that the others block for the station at a position of the table, with one position left aside.
+#[inline(never)]
+fn blocked<const BOX: bool>(
+    records: &[Record],
+    own: usize,
+    aside: usize,
+    standard: &'static Standard,
+) -> Channels {
+    let there = Lookout::<BOX>::new(Place::at(&records[own], standard));
+    let mut blocked = 0;
+    for (position, record) in walk::<BOX>(records, |record| there.spaced(record, 0)) {
+        if position == own || position == aside {
+            continue;
         }
-        blocked
+        if let Some(reach) = there.reach(record) {
+            blocked |= reach.around(by_channel(record));
+        }
     }
+    blocked
 }
 
 /// No requirement at this channel difference.
@@ -659,11 +722,11 @@ fn check<const BOX: bool>(
     table: &[u8],
     channel: u32,
     proposal: &Proposal,
-    aside: u32,
+    terms: Terms,
     rows: &mut [u32],
 ) -> Outcome<usize> {
-    let (records, aside) = studied::<BOX>(table, channel, channel, proposal, aside)?;
-    let held = Held::<BOX>::new(channel, Place::of(proposal));
+    let (records, standard, aside) = studied::<BOX>(table, channel, channel, proposal, terms)?;
+    let held = Held::<BOX>::new(channel, Place::of(proposal, standard));
     let mut found = Vec::with_capacity(32);
     for (position, record, s, km) in held.short(records) {
         if position != aside {
@@ -684,11 +747,11 @@ fn reason<const BOX: bool>(
     table: &[u8],
     channel: u32,
     proposal: &Proposal,
-    aside: u32,
+    terms: Terms,
     reason: &mut [u32; 4],
 ) -> Outcome<usize> {
-    let (records, aside) = studied::<BOX>(table, channel, channel, proposal, aside)?;
-    let held = Held::<BOX>::new(channel, Place::of(proposal));
+    let (records, standard, aside) = studied::<BOX>(table, channel, channel, proposal, terms)?;
+    let held = Held::<BOX>::new(channel, Place::of(proposal, standard));
     let (mut most, mut found) = (0, None);
     for (position, record, column) in held.near(records) {
         let km = held.lookout.limits[class(record)][column].km;
@@ -718,23 +781,29 @@ fn sought(records: &[Record], wanted: u32) -> Result<usize, usize> {
 /// No position of a table.
 const NOWHERE: usize = usize::MAX;
 
-/// The records of a table against which a proposal is studied, and the position of the one that is left aside: 23 where there is
-/// none with the id, nowhere where nobody is, by id 0.
+/// The records of a table against which a proposal is studied, the limits by which it is, 26 where there is no such standard, and
+/// the position of the record that is left aside: 23 where there is none with the id, nowhere where nobody is, by id 0.
 #[inline(always)]
 fn studied<'a, const BOX: bool>(
     table: &'a [u8],
     first: u32,
     last: u32,
     proposal: &Proposal,
-    aside: u32,
-) -> Outcome<(&'a [Record], usize)> {
+    Terms { aside, standard }: Terms,
+) -> Outcome<(&'a [Record], &'static Standard, usize)> {
     let records = judge::<BOX>(table)?;
-    judge_proposal(first, last, proposal)?;
+    judge_asked(first, last, proposal)?;
+    let standard = match standard {
+        1 => &BY_TABLE_A,
+        2 => &BY_LESSER,
+        _ => return Err(refusal(26, 0)),
+    };
+    judge_site(proposal.lat, proposal.lon)?;
     if aside == 0 {
-        return Ok((records, NOWHERE));
+        return Ok((records, standard, NOWHERE));
     }
     let position = sought(records, aside).map_err(|_| refusal(23, 0))?;
-    Ok((records, position))
+    Ok((records, standard, position))
 }
 
 /// The image of records in three parts.
@@ -765,7 +834,8 @@ fn add<const BOX: bool>(
     image: &mut [u8],
 ) -> Outcome<usize> {
     let records = judge::<BOX>(table)?;
-    judge_proposal(channel, channel, proposal)?;
+    judge_asked(channel, channel, proposal)?;
+    judge_site(proposal.lat, proposal.lon)?;
     if new == 0 {
         return Err(refusal(18, 0));
     }
@@ -773,7 +843,7 @@ fn add<const BOX: bool>(
         Ok(position) => return Err(refusal(19, position)),
         Err(place) => place,
     };
-    let held = Held::<BOX>::new(channel, Place::of(proposal));
+    let held = Held::<BOX>::new(channel, Place::of(proposal, &BY_TABLE_A));
     if let Some((position, ..)) = held.short(records).next() {
         return Err(refusal(20, position));
     }
@@ -817,7 +887,7 @@ fn move_to<const BOX: bool>(
     if !movable(&record) {
         return Err(refusal(25, own));
     }
-    let held = Held::<BOX>::new(channel, Place::at(&record));
+    let held = Held::<BOX>::new(channel, Place::at(&record, &BY_TABLE_A));
     if let Some((other, ..)) = held.short(records).find(|&(position, ..)| position != own) {
         return Err(refusal(20, other));
     }
@@ -920,11 +990,11 @@ fn arrange<const BOX: bool>(
     first: u32,
     last: u32,
     proposal: &Proposal,
-    aside: u32,
+    terms: Terms,
     rows: &mut [u32],
 ) -> Outcome<usize> {
-    let (records, aside) = studied::<BOX>(table, first, last, proposal, aside)?;
-    let lookout = Lookout::<BOX>::new(Place::of(proposal));
+    let (records, standard, aside) = studied::<BOX>(table, first, last, proposal, terms)?;
+    let lookout = Lookout::<BOX>::new(Place::of(proposal, standard));
     let survey = survey(records, first, last, aside, &lookout);
     let mut plans = [Plan::Nothing; 80];
     let mut need = 0;
@@ -944,8 +1014,7 @@ fn arrange<const BOX: bool>(
             let (taken, reach) = match kept {
                 Some((whose, taken, reach)) if whose == position => (taken, reach),
                 _ => {
-                    let there = Lookout::<BOX>::new(Place::at(record));
-                    let taken = there.blocked(records, position, aside);
+                    let taken = blocked::<BOX>(records, position, aside, standard);
                     let reach = lookout.reach(record).expect("it stands in the way");
                     kept = Some((position, taken, reach));
                     (taken, reach)
@@ -1023,19 +1092,19 @@ fn answer<const BOX: bool>(question: &Question, table: &[u8], lent: Lent) -> Ans
         Question::Check {
             channel,
             ref proposal,
-            aside,
-        } => check::<BOX>(table, channel, proposal, aside, lent.rows),
+            terms,
+        } => check::<BOX>(table, channel, proposal, terms, lent.rows),
         Question::Arrange {
             first,
             last,
             ref proposal,
-            aside,
-        } => arrange::<BOX>(table, first, last, proposal, aside, lent.rows),
+            terms,
+        } => arrange::<BOX>(table, first, last, proposal, terms, lent.rows),
         Question::Reason {
             channel,
             ref proposal,
-            aside,
-        } => reason::<BOX>(table, channel, proposal, aside, lent.reason),
+            terms,
+        } => reason::<BOX>(table, channel, proposal, terms, lent.reason),
     };
     Answer::of(match answer {
         Ok(count) => count as u64,

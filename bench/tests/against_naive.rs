@@ -5,10 +5,10 @@ mod common;
 use common::{agree, agree_in, class_a, dense, zone_for, LIMIT, LINE, ROWS};
 use fms_bench::made::{
     column_of, damaged, near_the_meridian, proposal_in, region, region_proposals, scene, scene_of,
-    wrapped, Area, Chance, Manner, Scene, DAMAGES, DIFFERENCES, LEVEL, MANNERS,
+    standard, wrapped, Area, Chance, Manner, Scene, DAMAGES, DIFFERENCES, LEVEL, MANNERS,
 };
 use fms_bench::naive::{degrees, image_in, image_of, km, rounded, squared, Station};
-use fms_bench::question::{Answer, Proposal, Question};
+use fms_bench::question::{Answer, Proposal, Question, Terms};
 
 /// A proposal near the stations; in one case of eight a wrong one.
 fn proposal(chance: &mut Chance, scene: &Scene) -> Proposal {
@@ -53,13 +53,22 @@ fn id(chance: &mut Chance, scene: &Scene) -> u32 {
     }
 }
 
-/// An id to leave aside: none, or one of the table, or another one.
-fn aside(chance: &mut Chance, scene: &Scene) -> u32 {
-    if chance.once_in(3) {
+/// An id to leave aside: none, or one of the table.
+fn nobody_or_one(chance: &mut Chance, scene: &Scene) -> u32 {
+    match scene.stations.is_empty() || chance.once_in(2) {
+        true => 0,
+        false => chance.one_of(&scene.stations).id,
+    }
+}
+
+/// Terms of a study: nobody left aside, or one of the table, or another one; and a standard.
+fn terms(chance: &mut Chance, scene: &Scene) -> Terms {
+    let aside = if chance.once_in(3) {
         0
     } else {
         id(chance, scene)
-    }
+    };
+    Terms::new(aside, standard(chance))
 }
 
 /// The eight questions about one scene.
@@ -108,14 +117,9 @@ fn questions(chance: &mut Chance, scene: &Scene) -> Vec<Question> {
             id: id(chance, scene),
             channel: channel(chance),
         },
-        Question::check(channel(chance), new, aside(chance, scene)),
-        Question::reason(busy_channel(chance, scene), new, aside(chance, scene)),
-        Question::Arrange {
-            first,
-            last,
-            proposal: new,
-            aside: aside(chance, scene),
-        },
+        Question::check(channel(chance), new, terms(chance, scene)),
+        Question::reason(busy_channel(chance, scene), new, terms(chance, scene)),
+        Question::arrange(first, last, new, terms(chance, scene)),
     ]
 }
 
@@ -129,12 +133,12 @@ fn worst(rows: &[[u32; 3]]) -> Vec<[u32; 3]> {
 
 /// The rows of Check, with the reason held to them: clear exactly where there are none; else the first row with the largest
 /// shortfall, the column of the channel difference, and the record of that id in the lent table.
-fn checked(table: &[u8], channel: u32, proposal: Proposal, aside: u32) -> Vec<[u32; 3]> {
+fn checked(table: &[u8], channel: u32, proposal: Proposal, terms: Terms) -> Vec<[u32; 3]> {
     let ask = |question| agree_in(&question, table, 0, ROWS);
-    let check = ask(Question::check(channel, proposal, aside));
+    let check = ask(Question::check(channel, proposal, terms));
     let (rows, _) = check.list().as_chunks::<3>();
     let first = worst(rows).first().copied();
-    let reason = ask(Question::reason(channel, proposal, aside)).reason();
+    let reason = ask(Question::reason(channel, proposal, terms)).reason();
     assert_eq!(reason.is_some(), first.is_some());
     if let (Some((place, numbers)), Some([id, d, r])) = (reason, first) {
         let (records, _) = table[8..].as_chunks::<16>();
@@ -217,7 +221,7 @@ fn made_questions() {
         word.parse().expect("FMS_QUESTIONS is to be a number")
     });
     let mut chance = Chance::new(11);
-    let (mut asked, mut granted, mut refused) = (0, 0, [0; 26]);
+    let (mut asked, mut granted, mut refused) = (0, 0, [0; 27]);
     let mut reasons = 0;
     'asking: for turn in 0.. {
         let scene = any_scene(&mut chance, turn);
@@ -300,31 +304,36 @@ fn twice_damaged_tables() {
     }
 }
 
-/// Tables of a region with 2,000 and with 4,000 stations: Check and the reason on every channel, with nobody and with each short
-/// station left aside; Arrange over the whole range, with nobody and with the nearest of them.
+/// Tables of a region with 2,000 and with 4,000 stations: Check and the reason on every channel by either standard, with nobody and
+/// with each short station left aside; Arrange over the whole range, with nobody and by one standard with the nearest of them.
 #[test]
 fn full_regions() {
     for (count, sites) in [(LINE, 6), (LIMIT, 3)] {
         let table = region(1, count);
-        for proposal in region_proposals(2, sites) {
-            let mut nearest = None;
-            for channel in 221..=300 {
-                let short = checked(&table, channel, proposal, 0);
-                for (place, &[id, d, _]) in short.iter().enumerate() {
-                    let others = [&short[..place], &short[place + 1..]].concat();
-                    assert_eq!(checked(&table, channel, proposal, id), others);
-                    nearest = nearest.into_iter().chain([(d, id)]).min();
+        for (turn, proposal) in region_proposals(2, sites).into_iter().enumerate() {
+            for standard in [1, 2] {
+                let mut nearest = None;
+                for channel in 221..=300 {
+                    let checked =
+                        |aside| checked(&table, channel, proposal, Terms::new(aside, standard));
+                    let short = checked(0);
+                    for (place, &[id, d, _]) in short.iter().enumerate() {
+                        let others = [&short[..place], &short[place + 1..]].concat();
+                        assert_eq!(checked(id), others);
+                        nearest = nearest.into_iter().chain([(d, id)]).min();
+                    }
                 }
-            }
-            let (_, nearest) = nearest.expect("somebody is short");
-            for aside in [0, nearest] {
-                let question = Question::Arrange {
-                    first: 221,
-                    last: 300,
-                    proposal,
-                    aside,
-                };
-                agree_in(&question, &table, 0, ROWS);
+                let (_, nearest) = nearest.expect("somebody is short");
+                let left_aside = turn % 2 + 1 == standard as usize;
+                for aside in [0].into_iter().chain(left_aside.then_some(nearest)) {
+                    let terms = Terms::new(aside, standard);
+                    agree_in(
+                        &Question::arrange(221, 300, proposal, terms),
+                        &table,
+                        0,
+                        ROWS,
+                    );
+                }
             }
         }
     }
@@ -348,18 +357,15 @@ fn a_station_left_aside() {
         };
         let first = chance.from(221, i64::from(channel)) as u32;
         let last = chance.from(i64::from(channel), 300) as u32;
+        let standard = chance.one_of(&[1, 2]);
         let questions = |aside| {
+            let terms = Terms::new(aside, standard);
             [
-                Question::check(channel, proposal, aside),
-                Question::Arrange {
-                    first,
-                    last,
-                    proposal,
-                    aside,
-                },
+                Question::check(channel, proposal, terms),
+                Question::arrange(first, last, proposal, terms),
             ]
         };
-        let reason = |aside| Question::reason(channel, proposal, aside);
+        let reason = |aside| Question::reason(channel, proposal, Terms::new(aside, standard));
         let whole = questions(0).map(|question| agree(&question, &table));
         let whole_reason = agree(&reason(0), &table).reason();
         for (own, station) in (8..).step_by(16).zip(&scene.stations) {
@@ -405,8 +411,9 @@ fn a_station_left_aside() {
 fn equal_shortfalls() {
     let mut chance = Chance::new(20);
     let (mut asked, mut several, mut unlike) = (0, 0, 0);
-    for _ in 0..3_000 {
-        let scene = scene(&mut chance, Manner::Level, 12);
+    for turn in 0..4_000 {
+        let standard = turn % 2 + 1;
+        let scene = scene(&mut chance, Manner::Level(standard), 12);
         let table = scene.table();
         let proposal = Proposal {
             station_class: 0,
@@ -414,7 +421,8 @@ fn equal_shortfalls() {
         };
         let ids = scene.stations.iter().map(|station| station.id);
         for aside in ids.chain([0]) {
-            let equal = worst(&checked(&table, LEVEL, proposal, aside));
+            let terms = Terms::new(aside, standard);
+            let equal = worst(&checked(&table, LEVEL, proposal, terms));
             asked += 1;
             several += usize::from(equal.len() > 1);
             unlike += usize::from(equal.iter().any(|[_, d, _]| *d != equal[0][1]));
@@ -439,10 +447,12 @@ fn one_of_many() {
             let table = image_of(&stations);
             let Station { id, .. } = stations[nearer];
             for (aside, position, d) in [(0, nearer, 28), (id, usize::from(nearer == 0), 31)] {
-                let rows = checked(&table, 250, class_a(0, 0), aside);
-                assert_eq!(rows.len(), count - usize::from(aside != 0));
-                let first = [stations[position].id, d, 115];
-                assert_eq!(worst(&rows)[0], first);
+                for (standard, r) in [(1, 115), (2, 92)] {
+                    let terms = Terms::new(aside, standard);
+                    let rows = checked(&table, 250, class_a(0, 0), terms);
+                    assert_eq!(rows.len(), count - usize::from(aside != 0));
+                    assert_eq!(worst(&rows)[0], [stations[position].id, d, r]);
+                }
             }
         }
     }
@@ -460,16 +470,59 @@ fn all_of_4000() {
         station.class = chance.from(0, 7) as u32;
     }
     let table = image_of(&stations);
-    let check = agree(&Question::check(LEVEL, class_a(0, 0), 0), &table);
-    assert_eq!(check.answer, Answer::Granted(3 * LIMIT as u32));
-    let whole = checked(&table, LEVEL, class_a(0, 0), 0);
-    let equal = worst(&whole);
-    let places = [0, LINE - 1, LINE, LIMIT - 1].map(|position| whole[position]);
-    for [aside, ..] in [equal[0], equal[1]].into_iter().chain(places) {
-        let mut rows = whole.clone();
-        rows.retain(|[id, ..]| *id != aside);
-        assert_eq!(checked(&table, LEVEL, class_a(0, 0), aside), rows);
+    for standard in [1, 2] {
+        let terms = |aside| Terms::new(aside, standard);
+        let check = agree(&Question::check(LEVEL, class_a(0, 0), terms(0)), &table);
+        assert_eq!(check.answer, Answer::Granted(3 * LIMIT as u32));
+        let whole = checked(&table, LEVEL, class_a(0, 0), terms(0));
+        let equal = worst(&whole);
+        let places = [0, LINE - 1, LINE, LIMIT - 1].map(|position| whole[position]);
+        for [aside, ..] in [equal[0], equal[1]].into_iter().chain(places) {
+            let mut rows = whole.clone();
+            rows.retain(|[id, ..]| *id != aside);
+            assert_eq!(checked(&table, LEVEL, class_a(0, 0), terms(aside)), rows);
+        }
     }
+}
+
+/// The lesser table asks for no more than Table A: a station that is short by standard 2 is so by 1, at the same D; what is
+/// acceptable by 1 is by 2; and a channel that is free by 1, where nobody moves, is so by 2.
+#[test]
+fn short_by_the_lesser_table() {
+    let mut chance = Chance::new(27);
+    let (mut both, mut by_table_a_alone, mut cleared, mut freed) = (0, 0, 0, 0);
+    for turn in 0..4_000 {
+        let manner = MANNERS[turn % MANNERS.len()];
+        let scene = scene(&mut chance, manner, 12);
+        let table = scene.table();
+        let mut proposal = proposal_in(&mut chance, scene.area);
+        let mut channel = busy_channel(&mut chance, &scene).clamp(221, 300);
+        if let Manner::Level(_) = manner {
+            (proposal.station_class, channel) = (0, LEVEL);
+        }
+        let aside = nobody_or_one(&mut chance, &scene);
+        let [full, lesser] = [1, 2].map(|standard| {
+            let terms = Terms::new(aside, standard);
+            let rows = checked(&table, channel, proposal, terms);
+            let arrange = Question::arrange(221, 300, proposal, terms);
+            let outcome = agree_in(&arrange, &table, 0, ROWS);
+            let (arranged, _) = outcome.list().as_chunks::<3>();
+            let unmoved = arranged.iter().filter(|[_, id, _]| *id == 0);
+            (rows, unmoved.map(|row| row[0]).collect::<Vec<_>>())
+        });
+        for &[id, d, r] in &lesser.0 {
+            let same = |row: &&[u32; 3]| row[..2] == [id, d];
+            let &[_, _, more] = full.0.iter().find(same).expect("short by 1");
+            assert!(d < r && r <= more);
+        }
+        assert!(full.1.iter().all(|free| lesser.1.contains(free)));
+        both += lesser.0.len();
+        by_table_a_alone += full.0.len() - lesser.0.len();
+        cleared += usize::from(lesser.0.is_empty() && !full.0.is_empty());
+        freed += lesser.1.len() - full.1.len();
+    }
+    println!("{both} short by both, {by_table_a_alone} by Table A alone; {cleared} proposals cleared and {freed} channels freed");
+    assert!(both > 1_000 && by_table_a_alone > 500 && cleared > 50 && freed > 1_000);
 }
 
 /// Sets the last station of a scene apart, where it is short to nobody on any channel: its id, and a proposal as far from all.
@@ -571,17 +624,10 @@ fn one_channel_at_a_time() {
         let scene = scene(&mut chance, MANNERS[turn % MANNERS.len()], 60);
         let table = scene.table();
         let proposal = proposal_in(&mut chance, scene.area);
-        let aside = match scene.stations.is_empty() || chance.once_in(2) {
-            true => 0,
-            false => chance.one_of(&scene.stations).id,
-        };
+        let aside = nobody_or_one(&mut chance, &scene);
+        let terms = Terms::new(aside, chance.one_of(&[1, 2]));
         let arranged = |first, last| {
-            let question = Question::Arrange {
-                first,
-                last,
-                proposal,
-                aside,
-            };
+            let question = Question::arrange(first, last, proposal, terms);
             agree(&question, &table).list().to_vec()
         };
         let one_by_one: Vec<u32> = (221..=300)
@@ -660,11 +706,12 @@ fn distances() {
     }
 }
 
-/// Holds two movable stations, D apart, to each other: the distance of their sites, Check, the reason, Arrange and Add for either
-/// in a table of the other, and the Move of either to its own channel in a table of both. Says whether they are short.
-fn held_to_each_other(a: Station, b: Station, d: u32) -> bool {
-    let difference = a.channel.abs_diff(b.channel);
-    let r = km(a.class, b.class, column_of(difference));
+/// Holds two movable stations, D apart, to each other: the distance of their sites, Check, the reason and Arrange by either
+/// standard and Add for either in a table of the other, and the Move of either to its own channel in a table of both. Says whether
+/// they are short by each standard.
+fn held_to_each_other(a: Station, b: Station, d: u32) -> [bool; 2] {
+    let column = column_of(a.channel.abs_diff(b.channel));
+    let separations = [1, 2].map(|standard| km(standard, a.class, b.class, column));
     let distance = match d {
         0..=475 => Answer::Granted(d),
         _ => Answer::Refused {
@@ -672,7 +719,7 @@ fn held_to_each_other(a: Station, b: Station, d: u32) -> bool {
             extra: 0,
         },
     };
-    let changed = |position| match d < r {
+    let changed = |position| match d < separations[0] {
         true => Answer::Refused {
             number: 20,
             extra: position,
@@ -699,16 +746,14 @@ fn held_to_each_other(a: Station, b: Station, d: u32) -> bool {
             lon2: old.lon,
         };
         assert_eq!(hold(asked, &[]).answer, distance);
-        let rows = checked(&table, channel, proposal, 0);
-        assert_eq!(rows.first(), (d < r).then_some(&[old.id, d, r]));
-        let arrange = Question::Arrange {
-            first: channel,
-            last: channel,
-            proposal,
-            aside: 0,
-        };
-        let free = hold(arrange, &table).list() == [channel, 0, 0];
-        assert_eq!(free, d >= r);
+        for (standard, r) in [1, 2].into_iter().zip(separations) {
+            let terms = Terms::new(0, standard);
+            let rows = checked(&table, channel, proposal, terms);
+            assert_eq!(rows.first(), (d < r).then_some(&[old.id, d, r]));
+            let arrange = Question::arrange(channel, channel, proposal, terms);
+            let free = hold(arrange, &table).list() == [channel, 0, 0];
+            assert_eq!(free, d >= r);
+        }
         let add = Question::Add {
             id,
             channel,
@@ -718,7 +763,7 @@ fn held_to_each_other(a: Station, b: Station, d: u32) -> bool {
         let stay = Question::Move { id, channel };
         assert_eq!(hold(stay, &both).answer, changed(other));
     }
-    d < r
+    separations.map(|r| d < r)
 }
 
 /// A difference of longitude at which two sites are about so many decimetres apart, 0 where their latitudes alone put them so far.
@@ -734,7 +779,7 @@ fn seconds_apart(lat1: i32, lat2: i32, decimetres: i64) -> i64 {
 #[test]
 fn pairs_across_the_meridian() {
     let mut chance = Chance::new(24);
-    let (pairs, mut across, mut short) = (50_000, 0, 0);
+    let (pairs, mut across, mut short) = (50_000, 0, [0; 2]);
     for _ in 0..pairs {
         let lat1 = match chance.once_in(8) {
             true => chance.one_of(&[-270_000, 0, 270_000]),
@@ -748,7 +793,7 @@ fn pairs_across_the_meridian() {
             0 => 0,
             1 => 5_000,
             2 => 4_755_000,
-            _ => 10_000 * i64::from(km(first, second, column)) - 5_000,
+            _ => 10_000 * i64::from(km(chance.one_of(&[1, 2]), first, second, column)) - 5_000,
         };
         let apart = seconds_apart(lat1, lat2, decimetres) + chance.from(-2, 2);
         let apart = apart.max(0);
@@ -770,10 +815,15 @@ fn pairs_across_the_meridian() {
         let other = station(8, 240 + difference, second, lat2, numbered(west + apart));
         let d = rounded(squared(lat1, 0, lat2, apart as i32));
         across += usize::from(one.lon.abs_diff(other.lon) > 648_000);
-        short += usize::from(held_to_each_other(one, other, d));
+        for (short, found) in short.iter_mut().zip(held_to_each_other(one, other, d)) {
+            *short += usize::from(found);
+        }
     }
-    println!("{pairs} pairs, {across} with more than 648,000 between their numbers, {short} short");
-    assert!(across > pairs / 2 && (pairs / 4..pairs * 3 / 4).contains(&short));
+    println!("{pairs} pairs, {across} with more than 648,000 between their numbers, {short:?} short by each standard");
+    assert!(across > pairs / 2);
+    assert!(short
+        .iter()
+        .all(|short| (pairs / 4..pairs * 3 / 4).contains(short)));
 }
 
 /// A longitude so many seconds farther east, round the globe; one that is out of range as it is.
@@ -877,15 +927,12 @@ fn full_regions_across_the_meridian() {
             let by = wrapped(near_the_meridian(&mut chance) - i64::from(proposal.lon));
             let studies = (221..=300).flat_map(|channel| {
                 let [check, reason] = [Question::check, Question::reason];
-                [check, reason].map(|study| study(channel, proposal, 0))
+                [(check, 1), (check, 2), (reason, 1), (reason, 2)]
+                    .map(|(study, standard)| study(channel, proposal, Terms::new(0, standard)))
             });
-            let arrange = Question::Arrange {
-                first: 221,
-                last: 300,
-                proposal,
-                aside: 0,
-            };
-            for question in studies.chain([arrange]) {
+            let arrange = [1, 2]
+                .map(|standard| Question::arrange(221, 300, proposal, Terms::new(0, standard)));
+            for question in studies.chain(arrange) {
                 held_farther_east(question, &table, by);
             }
         }

@@ -6,7 +6,7 @@ mod common;
 use common::{agree_in, table_of_one, zone_for};
 use fms_bench::made::{column_of, wrapped, DIFFERENCES};
 use fms_bench::naive::{cosines, degrees, km, rounded, squared};
-use fms_bench::question::{Answer, Proposal, Question};
+use fms_bench::question::{Answer, Proposal, Question, Terms};
 use fms_bench::{fms, naive, tuned};
 use std::collections::BTreeMap;
 
@@ -15,17 +15,51 @@ const E: i128 = 1_000_000_000;
 /// The greatest mean latitude, in half-seconds.
 const HIGHEST: i64 = 540_000;
 
-/// For each separation that Table A has, one pair of classes and one column that has it.
-fn separations() -> BTreeMap<u32, (u32, u32, usize)> {
-    let mut found = BTreeMap::new();
-    for a in 0..8 {
-        for b in 0..8 {
-            for column in 0..4 {
-                found.insert(km(a, b, column), (a, b, column));
-            }
-        }
+/// A relation: two classes and a channel difference, by a standard.
+#[derive(Clone, Copy, Debug)]
+struct Relation {
+    standard: u32,
+    a: u32,
+    b: u32,
+    difference: u32,
+}
+
+impl Relation {
+    fn column(&self) -> usize {
+        column_of(self.difference)
     }
-    found
+
+    fn km(&self) -> u32 {
+        km(self.standard, self.a, self.b, self.column())
+    }
+
+    /// The square of the least distance that rounds to its separation.
+    fn limit(&self) -> i128 {
+        let decimetres = 10_000 * i128::from(self.km()) - 5_000;
+        decimetres * decimetres
+    }
+}
+
+/// Every relation of a standard, each pair of classes in one order.
+fn relations(standard: u32) -> impl Iterator<Item = Relation> {
+    let pairs = (0..8).flat_map(|a| (a..8).map(move |b| (a, b)));
+    pairs.flat_map(move |(a, b)| {
+        DIFFERENCES.map(|(_, difference)| Relation {
+            standard,
+            a,
+            b,
+            difference,
+        })
+    })
+}
+
+/// For each separation that Table A or the lesser table has, one relation that has it; for one that both have, one of each.
+fn separations() -> BTreeMap<(u32, u32), Relation> {
+    [1, 2]
+        .into_iter()
+        .flat_map(relations)
+        .map(|relation| ((relation.km(), relation.standard), relation))
+        .collect()
 }
 
 /// Who tells a limit: of two classes and a column.
@@ -97,6 +131,48 @@ fn limits_by_hand() {
     }
 }
 
+/// The limit stays Table A's.
+#[test]
+fn limits_of_table_a() {
+    for (who, limit) in TELLERS {
+        for relation in relations(1) {
+            let Relation { a, b, .. } = relation;
+            let found = limit(a, b, relation.column() as u32);
+            assert_eq!(i128::from(found), relation.limit(), "{who}: {relation:?}");
+        }
+    }
+}
+
+/// Relations of the lesser table by hand, as printed in §73.215(e). Every one is below Table A in its three columns, and keeps the
+/// fourth.
+#[test]
+fn lesser_separations() {
+    for (a, b, columns) in [
+        (0, 0, [92, 49, 25]),
+        (0, 1, [119, 72, 42]),
+        (0, 3, [119, 72, 36]),
+        (1, 6, [215, 153, 81]),
+        (2, 6, [266, 195, 83]),
+        (2, 7, [268, 195, 99]),
+        (3, 6, [215, 152, 81]),
+        (4, 7, [237, 176, 96]),
+        (6, 6, [259, 196, 90]),
+        (7, 7, [270, 209, 99]),
+    ] {
+        for (a, b) in [(a, b), (b, a)] {
+            assert_eq!([0, 1, 2].map(|column| km(2, a, b, column)), columns);
+        }
+    }
+    for a in 0..8 {
+        for b in 0..8 {
+            assert_eq!(km(2, a, b, 3), km(1, a, b, 3));
+            for column in 0..3 {
+                assert!(km(2, a, b, column) < km(1, a, b, column));
+            }
+        }
+    }
+}
+
 /// S just below the limit rounds to a D below R, and S at the limit to R.
 #[test]
 fn limits_and_distances() {
@@ -105,7 +181,7 @@ fn limits_and_distances() {
             for b in 0..8 {
                 for column in 0..4 {
                     let s = i128::from(limit(a, b, column as u32));
-                    let r = km(a, b, column);
+                    let r = km(1, a, b, column);
                     let found = [rounded(s - 1), rounded(s)];
                     assert_eq!(found, [r - 1, r], "{who}: {a} to {b}, column {column}");
                 }
@@ -175,12 +251,19 @@ impl Sites {
         }
     }
 
-    /// Holds Check, the reason, Arrange and Add for two classes, and the distance, against the naive desk, from either site; says
-    /// whether they are short, which they are where S is below the limit.
-    fn held(&self, a: u32, b: u32, difference: u32) -> bool {
+    /// Holds Check, the reason, Arrange and Add for a relation, and the distance, against the naive desk, from either site; says
+    /// whether the two are short, which they are where S is below the limit. Add goes by Table A.
+    fn held(&self, relation: Relation) -> bool {
+        let Relation {
+            standard,
+            a,
+            b,
+            difference,
+        } = relation;
         let mut verdicts = Vec::new();
-        let column = column_of(difference);
-        let numbers = [7, self.kilometres(), km(a, b, column), column as u32];
+        let column = relation.column() as u32;
+        let numbers = [7, self.kilometres(), relation.km(), column];
+        let by_table_a = self.squared() < i128::from(fms::limit(a, b, column));
         for (station_class, class, station, asked) in [
             (a, b, 240, 240 + difference),
             (b, a, 240 + difference, 240),
@@ -195,34 +278,28 @@ impl Sites {
                 lon: self.lon2,
             };
             let hold = |question: Question| agree_in(&question, &table, 40, 240);
-            hold(Question::Arrange {
-                first: asked,
-                last: asked,
-                proposal,
-                aside: 0,
-            });
-            hold(Question::Add {
+            let add = hold(Question::Add {
                 id: 9,
                 channel: asked,
                 proposal,
             });
+            assert_eq!(add.answer == Answer::Granted(40), !by_table_a);
             let check = |aside| {
-                let short = !hold(Question::check(asked, proposal, aside))
-                    .list()
-                    .is_empty();
-                let reason = hold(Question::reason(asked, proposal, aside)).reason();
+                let terms = Terms::new(aside, standard);
+                let check = hold(Question::check(asked, proposal, terms));
+                let short = !check.list().is_empty();
+                let reason = hold(Question::reason(asked, proposal, terms)).reason();
                 assert_eq!(reason, short.then_some((8, numbers)));
+                let arrange = hold(Question::arrange(asked, asked, proposal, terms));
+                assert_eq!(arrange.list() == [asked, 0, 0], !short);
                 short
             };
             // Left aside, the station is short at no distance.
             assert!(!check(7));
             verdicts.push(check(0));
         }
-        let short = self.squared() < i128::from(fms::limit(a, b, column as u32));
-        assert_eq!(
-            verdicts, [short; 3],
-            "{self:?}: {a} to {b}, column {column}"
-        );
+        let short = self.squared() < relation.limit();
+        assert_eq!(verdicts, [short; 3], "{self:?}: {relation:?}");
         let Sites {
             lat1,
             lon1,
@@ -287,8 +364,8 @@ fn crossing_north(h: i64, r: u32) -> Option<i64> {
     Some(2 * apart + h % 2)
 }
 
-/// Every pair of classes and every difference, east and north, on both sides of the line, at many latitudes, around longitude 0 and
-/// across the 180th meridian.
+/// Every pair of classes and every difference by either standard, east and north, on both sides of the line, at many latitudes,
+/// around longitude 0 and across the 180th meridian.
 #[test]
 fn every_pair_of_classes() {
     let mut lines = 0;
@@ -296,42 +373,38 @@ fn every_pair_of_classes() {
         .step_by(22_501)
         .chain([1, 2, 216_001, 324_000, 519_999, 520_000, 540_000])
     {
-        for a in 0..8 {
-            for b in a..8 {
-                for (column, difference) in DIFFERENCES {
-                    let r = km(a, b, column);
-                    for dlat in [h % 2, 200 + h % 2] {
-                        if let Some(dlon) = crossing_east(h, dlat, r) {
-                            for (dlon, short) in [(dlon - 1, true), (dlon, false)] {
-                                let sites = Sites::at(h, dlat, dlon).expect("both in range");
-                                let across = sites.across();
-                                for sites in [sites, sites.south(), across, across.back()] {
-                                    assert_eq!(sites.held(a, b, difference), short);
-                                }
-                                lines += 1;
-                            }
+        for relation in [1, 2].into_iter().flat_map(relations) {
+            let r = relation.km();
+            for dlat in [h % 2, 200 + h % 2] {
+                if let Some(dlon) = crossing_east(h, dlat, r) {
+                    for (dlon, short) in [(dlon - 1, true), (dlon, false)] {
+                        let sites = Sites::at(h, dlat, dlon).expect("both in range");
+                        let across = sites.across();
+                        for sites in [sites, sites.south(), across, across.back()] {
+                            assert_eq!(sites.held(relation), short);
                         }
+                        lines += 1;
                     }
-                    if let Some(dlat) = crossing_north(h, r) {
-                        for (dlat, short) in [(dlat - 2, true), (dlat, false)] {
-                            let sites = Sites::at(h, dlat, 0).expect("both in range");
-                            assert_eq!(sites.held(a, b, difference), short);
-                            assert_eq!(sites.across().held(a, b, difference), short);
-                            lines += 1;
-                        }
-                    }
+                }
+            }
+            if let Some(dlat) = crossing_north(h, r) {
+                for (dlat, short) in [(dlat - 2, true), (dlat, false)] {
+                    let sites = Sites::at(h, dlat, 0).expect("both in range");
+                    assert_eq!(sites.held(relation), short);
+                    assert_eq!(sites.across().held(relation), short);
+                    lines += 1;
                 }
             }
         }
     }
-    assert!(lines > 20_000, "{lines} lines");
+    assert!(lines > 40_000, "{lines} lines");
 }
 
 /// S exactly at the square of the limit is spaced, and D is R.
 #[test]
 fn exactly_at_the_limit() {
     let mut met = 0;
-    for (&r, &(a, b, column)) in &separations() {
+    for (&(r, _), &relation) in &separations() {
         let limit = 10_000 * i64::from(r) - 5_000;
         let exact = (0..HIGHEST).step_by(2).filter_map(|h| {
             let (_, q) = degrees(i128::from(h));
@@ -341,18 +414,17 @@ fn exactly_at_the_limit() {
                 .flatten()
         });
         for sites in exact.take(3) {
-            let (_, difference) = DIFFERENCES[[0, 1, 2, 4][column]];
             assert_eq!(sites.kilometres(), r);
-            assert!(!sites.held(a, b, difference));
-            assert!(!sites.across().held(a, b, difference));
+            assert!(!sites.held(relation));
+            assert!(!sites.across().held(relation));
             met += 1;
         }
     }
     assert!(met > 100, "{met} sites");
 }
 
-/// One more or one less in Q, or in P, moves the line between two neighbouring sites: all such lines of Table A along a parallel
-/// or a meridian.
+/// One more or one less in Q, or in P, moves the line between two neighbouring sites: all such lines of Table A and of the lesser
+/// table along a parallel or a meridian.
 #[test]
 fn where_one_unit_decides() {
     let separations = separations();
@@ -361,8 +433,7 @@ fn where_one_unit_decides() {
     for h in 0..=HIGHEST {
         let (p, q) = degrees(i128::from(h));
         let (p, q) = (p as i64, q as i64);
-        for (&r, &(a, b, column)) in &separations {
-            let (_, difference) = DIFFERENCES[[0, 1, 2, 4][column]];
+        for (&(r, _), &relation) in &separations {
             let need = (10_000 * i64::from(r) - 5_000) * 3_600_000;
             // The least n with n × scale at least need, unless a scale of one more or one less gives the same.
             let decided = |scale: i64| {
@@ -373,20 +444,20 @@ fn where_one_unit_decides() {
                 if let Some(dlon) = decided(q) {
                     for (dlon, short) in [(dlon - 1, true), (dlon, false)] {
                         let sites = Sites::at(h, 0, dlon).expect("both in range");
-                        assert_eq!(sites.held(a, b, difference), short, "{sites:?}");
+                        assert_eq!(sites.held(relation), short, "{sites:?}");
                     }
                     by_q += 1;
                 }
             }
             if let Some(dlat) = decided(p).filter(|dlat| (dlat + h) % 2 == 0) {
                 if let Some(sites) = Sites::at(h, dlat, 0) {
-                    assert!(!sites.held(a, b, difference), "{sites:?}");
+                    assert!(!sites.held(relation), "{sites:?}");
                     by_p += 1;
                 }
             }
             if let Some(dlat) = decided(p).filter(|dlat| (dlat + h) % 2 != 0) {
                 if let Some(sites) = Sites::at(h, dlat - 1, 0) {
-                    assert!(sites.held(a, b, difference), "{sites:?}");
+                    assert!(sites.held(relation), "{sites:?}");
                     by_p += 1;
                 }
             }
@@ -425,13 +496,11 @@ fn where_flooring_would_show() {
                 continue;
             }
             latitudes += 1;
-            if let Some((r, near, far)) =
-                shows(h, q as i64, other as i64, separations.keys().copied())
+            if let Some((relation, near, far)) =
+                shows(h, q as i64, other as i64, separations.values())
             {
-                let (a, b, column) = separations[&r];
-                let (_, difference) = DIFFERENCES[[0, 1, 2, 4][column]];
-                assert!(near.held(a, b, difference), "{near:?}");
-                assert!(!far.held(a, b, difference), "{far:?}");
+                assert!(near.held(relation), "{near:?}");
+                assert!(!far.held(relation), "{far:?}");
                 shown += 1;
             }
         }
@@ -440,19 +509,19 @@ fn where_flooring_would_show() {
     assert!(shown > 400, "{shown} shown");
 }
 
-/// A separation and two pairs of sites, neighbours in longitude, one short and one not, of which Q and another Q judge one
+/// A relation and two pairs of sites, neighbours in longitude, one short and one not, of which Q and another Q judge one
 /// differently.
-fn shows(
+fn shows<'a>(
     h: i64,
     q: i64,
     other: i64,
-    separations: impl Iterator<Item = u32> + Clone,
-) -> Option<(u32, Sites, Sites)> {
+    relations: impl Iterator<Item = &'a Relation> + Clone,
+) -> Option<(Relation, Sites, Sites)> {
     let (p, _) = degrees(i128::from(h));
     for dlat in (h % 2..4_000).step_by(2) {
         let ns = dlat * p as i64 / 3_600_000;
-        for r in separations.clone() {
-            let limit = 10_000 * i64::from(r) - 5_000;
+        for &relation in relations.clone() {
+            let limit = 10_000 * i64::from(relation.km()) - 5_000;
             if ns >= limit {
                 continue;
             }
@@ -462,7 +531,7 @@ fn shows(
             let least = |scale: i64| (ew * 3_600_000 + scale - 1) / scale;
             if least(q) != least(other) {
                 let near = Sites::at(h, dlat, least(q) - 1)?;
-                return Some((r, near, Sites::at(h, dlat, least(q))?));
+                return Some((relation, near, Sites::at(h, dlat, least(q))?));
             }
         }
     }

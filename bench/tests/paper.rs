@@ -4,13 +4,28 @@ mod common;
 
 use common::{agree, class_a, dense, table_of_one, LIMIT, LINE};
 use fms_bench::naive::{degrees, image_of, short, squared, Station};
-use fms_bench::question::{Answer, Proposal, Question};
+use fms_bench::question::{Answer, Proposal, Question, Terms};
 
 const A: u32 = 0;
 const C: u32 = 7;
 
-/// Whether two stations of one class are short, asked of Check and for the reason from either end.
+/// Nobody left aside, by Table A and by the lesser table.
+const BY_TABLE_A: Terms = Terms::new(0, 1);
+const BY_LESSER: Terms = Terms::new(0, 2);
+
+/// Whether two stations of one class are short by Table A.
 fn is_short(class: u32, difference: u32, first: (i32, i32), second: (i32, i32)) -> bool {
+    short_on(BY_TABLE_A, class, difference, first, second)
+}
+
+/// Whether two stations of one class are short on some terms, asked of Check and for the reason from either end.
+fn short_on(
+    terms: Terms,
+    class: u32,
+    difference: u32,
+    first: (i32, i32),
+    second: (i32, i32),
+) -> bool {
     let mut verdicts = Vec::new();
     for (there, here) in [(first, second), (second, first)] {
         for (station, asked) in [(221, 221 + difference), (221 + difference, 221)] {
@@ -21,8 +36,8 @@ fn is_short(class: u32, difference: u32, first: (i32, i32), second: (i32, i32)) 
                 lat: here.0,
                 lon: here.1,
             };
-            let check = agree(&Question::check(asked, proposal, 0), &table);
-            let reason = agree(&Question::reason(asked, proposal, 0), &table);
+            let check = agree(&Question::check(asked, proposal, terms), &table);
+            let reason = agree(&Question::reason(asked, proposal, terms), &table);
             verdicts.extend([!check.list().is_empty(), reason.reason().is_some()]);
         }
     }
@@ -58,7 +73,7 @@ fn p11() {
         lat: 0,
         lon: 0,
     };
-    assert!(!short(&station, &station));
+    assert!(!short(&station, &station, 1) && !short(&station, &station, 2));
     let table = image_of(&[station, Station { id: 8, ..station }]);
     assert_eq!(agree(&Question::Read, &table).answer, Answer::Granted(2));
     let [check, reason] = [Question::check, Question::reason];
@@ -67,11 +82,14 @@ fn p11() {
             number: 13,
             extra: 0,
         };
-        assert_eq!(agree(&ask(220, class_a(0, 0), 0), &table).answer, refusal);
+        assert_eq!(
+            agree(&ask(220, class_a(0, 0), BY_TABLE_A), &table).answer,
+            refusal
+        );
     }
-    let found = agree(&check(221, class_a(0, 0), 0), &table);
+    let found = agree(&check(221, class_a(0, 0), BY_TABLE_A), &table);
     assert_eq!(found.list(), [7, 0, 72, 8, 0, 72]);
-    let found = agree(&reason(221, class_a(0, 0), 0), &table);
+    let found = agree(&reason(221, class_a(0, 0), BY_TABLE_A), &table);
     assert_eq!(found.reason(), Some((8, [7, 0, 72, 1])));
 }
 
@@ -109,7 +127,7 @@ fn differences() {
             expected.is_some(),
             "difference {difference}"
         );
-        let reason = Question::reason(221 + difference, class_a(0, 0), 0);
+        let reason = Question::reason(221 + difference, class_a(0, 0), BY_TABLE_A);
         let found = agree(&reason, &table_of_one(221, A, 0, 0)).reason();
         assert_eq!(found, expected.map(|numbers| (8, numbers)));
     }
@@ -118,20 +136,15 @@ fn differences() {
 #[test]
 fn whole_output() {
     let table = table_of_one(250, A, 0, 0);
-    let check = Question::check(250, class_a(0, 3_702), 0);
+    let check = Question::check(250, class_a(0, 3_702), BY_TABLE_A);
     assert_eq!(agree(&check, &table).list(), [7, 114, 115]);
-    let reason = Question::reason(250, class_a(0, 3_702), 0);
+    let reason = Question::reason(250, class_a(0, 3_702), BY_TABLE_A);
     assert_eq!(agree(&reason, &table).reason(), Some((8, [7, 114, 115, 0])));
 }
 
 /// The rows of Arrange over the whole range for class A at (0, 0) in zone 3.
 fn arrangements(table: &[u8]) -> Vec<[u32; 3]> {
-    let question = Question::Arrange {
-        first: 221,
-        last: 300,
-        proposal: class_a(0, 0),
-        aside: 0,
-    };
+    let question = Question::arrange(221, 300, class_a(0, 0), BY_TABLE_A);
     agree(&question, table)
         .list()
         .chunks(3)
@@ -192,17 +205,11 @@ fn own_change_of_site() {
         zone: 1,
         ..class_a(0, 0)
     };
-    let arranged = |aside| {
-        let question = Question::Arrange {
-            first: 221,
-            last: 300,
-            proposal,
-            aside,
-        };
-        agree(&question, &table)
-    };
-    let checked = |channel, aside| agree(&Question::check(channel, proposal, aside), &table);
-    let reasoned = |channel, aside| agree(&Question::reason(channel, proposal, aside), &table);
+    let terms = |aside| Terms::new(aside, 1);
+    let arranged = |aside| agree(&Question::arrange(221, 300, proposal, terms(aside)), &table);
+    let checked = |channel, aside| agree(&Question::check(channel, proposal, terms(aside)), &table);
+    let reasoned =
+        |channel, aside| agree(&Question::reason(channel, proposal, terms(aside)), &table);
     let free: Vec<u32> = (221..=300).flat_map(|channel| [channel, 0, 0]).collect();
     assert_eq!(arranged(7).list(), free);
     assert_eq!(arranged(0).list().len(), 3 * 584);
@@ -221,43 +228,40 @@ fn own_change_of_site() {
     assert_eq!(reasoned(260, 8).answer, absent);
 }
 
-/// the record left aside neither blocks, nor moves, nor restrains a station that moves.
-#[test]
-fn a_station_left_aside_restrains_nobody() {
-    let movable = Station {
-        id: 7,
-        channel: 260,
+/// A movable class A station on the equator.
+fn movable(id: u32, channel: u32, lon: i32) -> Station {
+    Station {
+        id,
+        channel,
         class: A,
         flags: 0,
         lat: 0,
-        lon: 0,
-    };
-    let other = Station {
-        id: 9,
-        channel: 230,
-        ..movable
-    };
-    let table = image_of(&[movable, other]);
-    let moves = |channel, aside| {
-        let question = Question::Arrange {
-            first: channel,
-            last: channel,
-            proposal: class_a(0, 0),
-            aside,
-        };
-        let rows = agree(&question, &table).list().to_vec();
-        rows.chunks(3)
-            .map(|row| (row[1], row[2]))
-            .collect::<Vec<_>>()
-    };
+        lon,
+    }
+}
+
+/// Who moves where for a class A proposal at (0, 0) on a channel; (0, 0) where nobody has to.
+fn moves(table: &[u8], channel: u32, terms: Terms) -> Vec<(u32, u32)> {
+    let question = Question::arrange(channel, channel, class_a(0, 0), terms);
+    let rows = agree(&question, table).list().to_vec();
+    rows.chunks(3).map(|row| (row[1], row[2])).collect()
+}
+
+/// Station 7 to every channel that is good.
+fn seven_to(good: impl Fn(u32) -> bool) -> Vec<(u32, u32)> {
+    let channels = (221..=300).filter(|&channel| good(channel));
+    channels.map(|channel| (7, channel)).collect()
+}
+
+/// the record left aside neither blocks, nor moves, nor restrains a station that moves.
+#[test]
+fn a_station_left_aside_restrains_nobody() {
+    let table = image_of(&[movable(7, 260, 0), movable(9, 230, 0)]);
+    let moves = |channel, aside| moves(&table, channel, Terms::new(aside, 1));
     // On 260 station 7 may go to any channel that is spaced from the new one, and from 9 where that one is not left aside.
     let spaced = |channel: u32, from: u32| !matches!(channel.abs_diff(from), 0..=3 | 53 | 54);
-    let away = |others: &[u32]| {
-        (221..=300)
-            .filter(|&channel| others.iter().all(|&other| spaced(channel, other)))
-            .map(|channel| (7, channel))
-            .collect::<Vec<_>>()
-    };
+    let away =
+        |others: &[u32]| seven_to(|channel| others.iter().all(|&other| spaced(channel, other)));
     assert_eq!(moves(260, 0), away(&[260, 230]));
     assert_eq!(moves(260, 9), away(&[260]));
     assert_eq!(moves(260, 7), [(0, 0)]);
@@ -285,10 +289,13 @@ fn the_largest_shortfall() {
         station(10, 256, A, -2_555),
         station(12, 203, A, 0),
     ]);
-    let rows = agree(&Question::check(256, class_a(0, 0), 0), &table);
+    let rows = agree(&Question::check(256, class_a(0, 0), BY_TABLE_A), &table);
     let shortfalls = rows.list().chunks(3).map(|row| row[2] - row[1]);
     assert_eq!(shortfalls.collect::<Vec<_>>(), [31, 72, 50, 72, 36, 10]);
-    let reason = |aside| agree(&Question::reason(256, class_a(0, 0), aside), &table).reason();
+    let reason = |aside| {
+        let question = Question::reason(256, class_a(0, 0), Terms::new(aside, 1));
+        agree(&question, &table).reason()
+    };
     assert_eq!(reason(0), Some((24, [4, 43, 115, 0])));
     assert_eq!(reason(4), Some((56, [8, 0, 72, 1])));
     for other in [2, 6, 8, 10, 12] {
@@ -444,9 +451,9 @@ fn the_far_aleutians() {
     for (there, here) in [(west, east), (east, west)] {
         let table = table_of_one(250, A, lat, there);
         let proposal = class_a(lat, here);
-        let check = agree(&Question::check(250, proposal, 0), &table);
+        let check = agree(&Question::check(250, proposal, BY_TABLE_A), &table);
         assert_eq!(check.list(), [7, 0, 115]);
-        let reason = agree(&Question::reason(250, proposal, 0), &table);
+        let reason = agree(&Question::reason(250, proposal, BY_TABLE_A), &table);
         assert_eq!(reason.reason(), Some((8, [7, 0, 115, 0])));
         let add = Question::Add {
             id: 9,
@@ -458,14 +465,108 @@ fn the_far_aleutians() {
             extra: 0,
         };
         assert_eq!(agree(&add, &table).answer, short);
-        let arrange = Question::Arrange {
-            first: 250,
-            last: 250,
-            proposal,
-            aside: 0,
-        };
+        let arrange = Question::arrange(250, 250, proposal, BY_TABLE_A);
         let rows = agree(&arrange, &table);
         assert_eq!(rows.list().len(), 3 * 73);
         assert_eq!(rows.list()[..3], [250, 7, 221]);
     }
+}
+
+/// the last seconds of the equator at which two of one class are short, by Table A and by the lesser table of §73.215(e): the
+/// first three columns are less, the fourth is the same.
+#[test]
+fn the_lesser_separations() {
+    for (class, difference, by_table_a, by_lesser) in [
+        (A, 0, 3_702, 2_959),
+        (A, 1, 2_312, 1_568),
+        (A, 2, 986, 792),
+        (A, 3, 986, 792),
+        (A, 53, 307, 307),
+        (A, 54, 307, 307),
+        (C, 0, 9_362, 8_715),
+        (C, 1, 7_777, 6_742),
+        (C, 3, 3_379, 3_185),
+        (C, 53, 1_536, 1_536),
+    ] {
+        for (terms, seconds) in [(BY_TABLE_A, by_table_a), (BY_LESSER, by_lesser)] {
+            let short = |seconds| short_on(terms, class, difference, (0, 0), (0, seconds));
+            assert!(short(seconds) && !short(seconds + 1), "{terms:?}");
+        }
+    }
+    assert!(short_on(
+        BY_LESSER,
+        A,
+        0,
+        (0, 647_900),
+        (0, 2_959 - 648_100)
+    ));
+    assert!(!short_on(
+        BY_LESSER,
+        A,
+        0,
+        (0, 647_900),
+        (0, 2_960 - 648_100)
+    ));
+}
+
+/// the paper's pair is short by Table A alone; nearer, it is short by both, each with its own R. Add and Move go by Table A.
+#[test]
+fn a_pair_by_either_standard() {
+    let table = table_of_one(250, A, 0, 0);
+    for (lon, d, by_table_a, by_lesser) in [
+        (3_703, 115, None, None),
+        (3_702, 114, Some(115), None),
+        (2_960, 92, Some(115), None),
+        (2_959, 91, Some(115), Some(92)),
+        (0, 0, Some(115), Some(92)),
+    ] {
+        let proposal = class_a(0, lon);
+        for (terms, r) in [(BY_TABLE_A, by_table_a), (BY_LESSER, by_lesser)] {
+            let check = agree(&Question::check(250, proposal, terms), &table);
+            assert_eq!(check.list(), r.map_or(vec![], |r| vec![7, d, r]));
+            let reason = agree(&Question::reason(250, proposal, terms), &table);
+            assert_eq!(reason.reason(), r.map(|r| (8, [7, d, r, 0])));
+        }
+        let refused = Answer::Refused {
+            number: 20,
+            extra: 0,
+        };
+        let changed = |count| by_table_a.map_or(Answer::Granted(count), |_| refused);
+        let (id, channel) = (9, 250);
+        let add = Question::Add {
+            id,
+            channel,
+            proposal,
+        };
+        assert_eq!(agree(&add, &table).answer, changed(40));
+        let both = image_of(&[movable(7, channel, 0), movable(id, channel, lon)]);
+        let stay = Question::Move { id, channel };
+        assert_eq!(agree(&stay, &both).answer, changed(40));
+    }
+}
+
+/// at 100 km on the channel asked for one station is short by 15 by Table A, and is not by the lesser table; another, at the
+/// site and 53 channels below, is short by 10 by either.
+#[test]
+fn the_reason_by_either_standard() {
+    let table = image_of(&[movable(2, 207, 0), movable(4, 260, 3_234)]);
+    let reason = |terms| agree(&Question::reason(260, class_a(0, 0), terms), &table).reason();
+    assert_eq!(reason(BY_TABLE_A), Some((24, [4, 100, 115, 0])));
+    assert_eq!(reason(BY_LESSER), Some((8, [2, 0, 10, 3])));
+    assert_eq!(reason(Terms::new(2, 2)), None);
+}
+
+/// a channel that is had by moving a station by Table A, and is free by the lesser table. Where a station has to move by
+/// either, it is held to the new one and to the others by the chosen table.
+#[test]
+fn arrangements_by_either_standard() {
+    let moves = |table: &[u8], terms| moves(table, 260, terms);
+    let all_but = |others: &[u32]| seven_to(|channel| !others.contains(&channel));
+    let table = table_of_one(260, A, 0, 3_702);
+    assert_eq!(moves(&table, BY_TABLE_A), all_but(&[260]));
+    assert_eq!(moves(&table, BY_LESSER), [(0, 0)]);
+    // Station 7 is 60 km from the site, and station 9 is 93 km from 7.
+    let table = image_of(&[movable(7, 260, 1_940), movable(9, 230, 4_940)]);
+    assert_eq!(moves(&table, BY_TABLE_A), all_but(&[230, 259, 260, 261]));
+    assert_eq!(moves(&table, BY_LESSER), all_but(&[260]));
 }

@@ -14,7 +14,7 @@ use fms_bench::made::{
     MANNERS,
 };
 use fms_bench::naive::{self, image_in, image_of};
-use fms_bench::question::{Answer, Lent, Proposal, Question};
+use fms_bench::question::{Answer, Lent, Proposal, Question, Terms};
 
 const PROGRAMS: [&str; 5] = [
     "fm_check",
@@ -78,32 +78,35 @@ fn proposal_at(input: &[u8], at: usize) -> Proposal {
     }
 }
 
-/// What fm_check reads from a place on.
-fn check_at(input: &[u8], at: usize, aside: u32) -> Question {
-    Question::check(u16_at(input, at), proposal_at(input, at + 2), aside)
+/// The terms of fm_check and fm_arrange.
+const PLAIN: Terms = Terms::new(0, 1);
+
+/// The terms of a study: the id left aside, then the standard.
+fn terms_at(input: &[u8], at: usize) -> Terms {
+    Terms::new(u32_at(input, at), u32::from(input[at + 4]))
 }
 
-/// What fm_reason reads: what fm_check does, and then the id left aside.
+/// What fm_check reads from a place on.
+fn check_at(input: &[u8], at: usize, terms: Terms) -> Question {
+    Question::check(u16_at(input, at), proposal_at(input, at + 2), terms)
+}
+
+/// What fm_reason reads: what fm_check does, and then the terms.
 fn reason_in(input: &[u8]) -> Question {
-    Question::reason(u16_at(input, 0), proposal_at(input, 2), u32_at(input, 12))
+    Question::reason(u16_at(input, 0), proposal_at(input, 2), terms_at(input, 12))
 }
 
 /// What fm_arrange reads from a place on.
-fn arrange_at(input: &[u8], at: usize, aside: u32) -> Question {
-    Question::Arrange {
-        first: 221,
-        last: 300,
-        proposal: proposal_at(input, at),
-        aside,
-    }
+fn arrange_at(input: &[u8], at: usize, terms: Terms) -> Question {
+    Question::arrange(221, 300, proposal_at(input, at), terms)
 }
 
 /// The question that an input puts, and where its table begins; nothing where it ends before the table or names none.
 fn question(program: &str, input: &[u8]) -> Option<(Question, usize)> {
     let (question, from): (fn(&[u8]) -> Question, usize) = match (program, input.first()) {
-        ("fm_check", _) => (|input| check_at(input, 0, 0), 12),
-        ("fm_reason", _) => (reason_in, 16),
-        ("fm_arrange", _) => (|input| arrange_at(input, 0, 0), 10),
+        ("fm_check", _) => (|input| check_at(input, 0, PLAIN), 12),
+        ("fm_reason", _) => (reason_in, 17),
+        ("fm_arrange", _) => (|input| arrange_at(input, 0, PLAIN), 10),
         ("fm_change", Some(b'a')) => (
             |input| Question::Add {
                 id: u32_at(input, 1),
@@ -125,8 +128,8 @@ fn question(program: &str, input: &[u8]) -> Option<(Question, usize)> {
             },
             7,
         ),
-        ("fm_study", Some(b'c')) => (|input| check_at(input, 5, u32_at(input, 1)), 17),
-        ("fm_study", Some(b'a')) => (|input| arrange_at(input, 5, u32_at(input, 1)), 15),
+        ("fm_study", Some(b'c')) => (|input| check_at(input, 6, terms_at(input, 1)), 18),
+        ("fm_study", Some(b'a')) => (|input| arrange_at(input, 6, terms_at(input, 1)), 16),
         ("fm_study", Some(b'd')) if input.len() == 17 => (
             |input| Question::Distance {
                 lat1: i32_at(input, 1),
@@ -164,9 +167,9 @@ fn printed(program: &str, input: &[u8]) -> Vec<u8> {
     let mut text = match question {
         Question::Distance { .. } => return format!("{count}\n").into_bytes(),
         Question::Reason { .. } if count == 0 => return b"clear\n".to_vec(),
-        Question::Reason { .. } => {
+        Question::Reason { terms, .. } => {
             let [id, d, r, column] = reason;
-            return format!("{id} {d} {r} {column}\n").into_bytes();
+            return format!("{id} {d} {r} {column} {}\n", terms.standard).into_bytes();
         }
         Question::Check { .. } => format!("short {}\n", count / 3),
         Question::Arrange { .. } => String::new(),
@@ -221,13 +224,24 @@ fn put_id(chance: &mut Chance, scene: &Scene, input: &mut Vec<u8>) {
     input.extend(id.to_be_bytes());
 }
 
-/// An id to leave aside, at times none.
-fn put_aside(chance: &mut Chance, scene: &Scene, input: &mut Vec<u8>) {
+/// The bytes of the terms of a study.
+fn terms_bytes(aside: u32, standard: u8) -> [u8; 5] {
+    let [a, b, c, d] = aside.to_be_bytes();
+    [a, b, c, d, standard]
+}
+
+/// An id to leave aside, at times none, and a standard, at times a byte that is none.
+fn put_terms(chance: &mut Chance, scene: &Scene, input: &mut Vec<u8>) {
     if chance.once_in(4) {
         input.extend([0; 4]);
     } else {
         put_id(chance, scene, input);
     }
+    input.push(if chance.once_in(16) {
+        chance.one_of(&[0, 3, 128, 129, 255])
+    } else {
+        chance.one_of(&[1, 2])
+    });
 }
 
 fn put_site(chance: &mut Chance, scene: &Scene, input: &mut Vec<u8>) {
@@ -244,7 +258,7 @@ fn put_question(chance: &mut Chance, program: &str, scene: &Scene, input: &mut V
             put_channel(chance, input);
             put_proposal(chance, scene, input);
             if program == "fm_reason" {
-                put_aside(chance, scene, input);
+                put_terms(chance, scene, input);
             }
         }
         "fm_arrange" => put_proposal(chance, scene, input),
@@ -278,7 +292,7 @@ fn put_question(chance: &mut Chance, program: &str, scene: &Scene, input: &mut V
                 put_site(chance, scene, input);
                 return chance.once_in(8);
             }
-            put_aside(chance, scene, input);
+            put_terms(chance, scene, input);
             if letter != b'a' {
                 put_channel(chance, input);
             }
@@ -367,8 +381,9 @@ fn programs_print_what_the_paper_says() {
     }
 }
 
-/// fm_study after `c` and `a` and an id: with 0 it prints what fm_check and fm_arrange print, with a present or an absent id what the
-/// naive desk says; cut before the table or in its header it is refused, and so is any other letter.
+/// fm_study after `c` and `a` and the terms: with id 0 and standard 1 it prints what fm_check and fm_arrange print, with a present
+/// or an absent id and with any other standard what the naive desk says; cut in the terms, before the table or in its header it is
+/// refused, and so is any other letter.
 #[test]
 fn a_study_of_a_table() {
     if !programs_run() {
@@ -381,52 +396,75 @@ fn a_study_of_a_table() {
             let mut plain = Vec::new();
             put_question(&mut chance, program, &scene, &mut plain);
             plain.extend(scene.table());
-            let study = |id: u32| [&[letter][..], &id.to_be_bytes(), &plain].concat();
-            let told = held("fm_study", &study(0), "id 0");
+            let study = |id, standard| [&[letter][..], &terms_bytes(id, standard), &plain].concat();
+            let told = held("fm_study", &study(0, 1), "id 0");
             assert_eq!(told, run(program, &plain).expect("it starts"));
             let present = scene.stations.first().map(|station| station.id);
-            for id in present.into_iter().chain([4_999, u32::MAX]) {
-                held("fm_study", &study(id), &format!("id {id}"));
+            for id in present.into_iter().chain([0, 4_999, u32::MAX]) {
+                for standard in [1, 2, 0, 3, 255] {
+                    let name = format!("id {id} by standard {standard}");
+                    held("fm_study", &study(id, standard), &name);
+                }
             }
             for other in [0, b'b', b'd', b'C', b'A', b'w', 255] {
-                let mut input = study(0);
+                let mut input = study(0, 1);
                 input[0] = other;
                 assert_eq!(held("fm_study", &input, "another letter"), b"refused 1 0\n");
             }
             if turn == 0 {
-                held_cut("fm_study", &study(present.unwrap_or(7)));
+                for standard in [1, 2, 0] {
+                    held_cut("fm_study", &study(present.unwrap_or(7), standard));
+                }
             }
         }
     }
 }
 
-/// fm_reason: the paper's example, and the same with its station and with an absent one left aside; stations that are short by the
-/// same, where it prints what the naive desk says, and `clear` exactly where fm_study prints `short 0`.
+/// fm_reason: the paper's example by either standard and by none, and the same with its station and with an absent one left aside;
+/// stations that are short by the same, where it prints what the naive desk says, and `clear` exactly where fm_study prints
+/// `short 0`.
 #[test]
 fn a_reason_for_a_sheet() {
     if !programs_run() {
         return;
     }
-    let example = |aside: u32| {
-        let (asked, table) = (asked(250, &class_a(0, 3_702)), table_of_one(250, 0, 0, 0));
-        [&asked[..], &aside.to_be_bytes(), &table].concat()
+    let example = |lon, aside, standard| {
+        let (asked, table) = (asked(250, &class_a(0, lon)), table_of_one(250, 0, 0, 0));
+        [&asked[..], &terms_bytes(aside, standard), &table].concat()
     };
-    for (aside, line) in [(0, "7 114 115 0"), (7, "clear"), (8, "refused 23 0")] {
-        let told = held("fm_reason", &example(aside), "the example");
+    for (lon, aside, standard, line) in [
+        (3_702, 0, 1, "7 114 115 0 1"),
+        (3_702, 7, 1, "clear"),
+        (3_702, 8, 1, "refused 23 0"),
+        (3_702, 0, 2, "clear"),
+        (2_959, 0, 1, "7 91 115 0 1"),
+        (2_959, 0, 2, "7 91 92 0 2"),
+        (2_959, 7, 2, "clear"),
+        (2_959, 8, 2, "refused 23 0"),
+        (2_959, 0, 0, "refused 26 0"),
+        (2_959, 8, 3, "refused 26 0"),
+        (648_001, 8, 255, "refused 26 0"),
+        (648_001, 8, 2, "refused 17 0"),
+    ] {
+        let told = held("fm_reason", &example(lon, aside, standard), "the example");
         assert_eq!(told, format!("{line}\n").as_bytes());
     }
-    held_cut("fm_reason", &example(0));
+    for standard in [1, 2, 0] {
+        held_cut("fm_reason", &example(0, 0, standard));
+    }
     let mut chance = Chance::new(21);
-    for _ in 0..8 {
-        let scene = scene(&mut chance, Manner::Level, 8);
+    for turn in 0..8 {
+        let standard = turn % 2 + 1;
+        let scene = scene(&mut chance, Manner::Level(standard.into()), 8);
         let table = scene.table();
         let (lat, lon) = (scene.area.lat.0 as i32, scene.area.lon.0 as i32);
         let asked = asked(LEVEL + chance.from(0, 2) as u32, &class_a(lat, lon));
         let ids = scene.stations.iter().map(|station| station.id);
         for aside in ids.chain([0]) {
-            let input = [&asked[..], &aside.to_be_bytes(), &table].concat();
+            let terms = terms_bytes(aside, standard);
+            let input = [&asked[..], &terms, &table].concat();
             let told = held("fm_reason", &input, &format!("id {aside}"));
-            let study = [b"c", &aside.to_be_bytes()[..], &asked, &table].concat();
+            let study = [b"c", &terms[..], &asked, &table].concat();
             let check = run("fm_study", &study).expect("it starts");
             assert_eq!(told == b"clear\n", check == b"short 0\n");
         }
@@ -441,12 +479,18 @@ fn across_the_meridian() {
     }
     let asked = asked(250, &class_a(186_720, 647_999));
     let table = table_of_one(250, 0, 186_720, -647_991);
-    let [nobody, new] = [0, 9].map(u32::to_be_bytes);
+    let [full, lesser] = [1, 2].map(|standard| terms_bytes(0, standard));
     for (program, head, told) in [
         ("fm_check", &[&asked[..]][..], "short 1\n7 0 115\n"),
-        ("fm_reason", &[&asked, &nobody], "7 0 115 0\n"),
-        ("fm_study", &[b"c", &nobody, &asked], "short 1\n7 0 115\n"),
-        ("fm_change", &[b"a", &new, &asked], "refused 20 0\n"),
+        ("fm_reason", &[&asked, &full], "7 0 115 0 1\n"),
+        ("fm_reason", &[&asked, &lesser], "7 0 92 0 2\n"),
+        ("fm_study", &[b"c", &full, &asked], "short 1\n7 0 115\n"),
+        ("fm_study", &[b"c", &lesser, &asked], "short 1\n7 0 92\n"),
+        (
+            "fm_change",
+            &[b"a", &[0, 0, 0, 9], &asked],
+            "refused 20 0\n",
+        ),
     ] {
         let input = [&head.concat()[..], &table].concat();
         assert_eq!(held(program, &input, "the example"), told.as_bytes());
@@ -470,14 +514,15 @@ fn across_the_meridian() {
 /// stations are short, and with their first id; the Add far from them, with an id behind theirs.
 fn heads() -> [(&'static str, Vec<u8>); 8] {
     let [first, behind] = [10, 40_001].map(u32::to_be_bytes);
+    let [full, lesser] = [1, 2].map(|standard| terms_bytes(10, standard));
     let [short, spaced] = [0, 200_000].map(|lat| asked(250, &class_a(lat, 0)));
     let head = |program, parts: &[&[u8]]| (program, parts.concat());
     [
         head("fm_check", &[&short]),
-        head("fm_reason", &[&short, &first]),
+        head("fm_reason", &[&short, &lesser]),
         head("fm_arrange", &[&short[2..]]),
-        head("fm_study", &[b"c", &first, &short]),
-        head("fm_study", &[b"a", &first, &short[2..]]),
+        head("fm_study", &[b"c", &full, &short]),
+        head("fm_study", &[b"a", &lesser, &short[2..]]),
         head("fm_change", &[b"a", &behind, &spaced]),
         head("fm_change", &[b"w", &first]),
         head("fm_change", &[b"m", &first, &260u16.to_be_bytes()]),
@@ -532,11 +577,11 @@ fn a_check_of_4000() {
         told.len(),
         "short 4000\n".len() + LIMIT * "4294967295 105 115\n".len()
     );
-    let study = [b"c", &[0; 4][..], &question, &table].concat();
+    let study = [b"c", &terms_bytes(0, 1)[..], &question, &table].concat();
     assert_eq!(held("fm_study", &study, "all short"), told);
 }
 
-/// The arrangements in a region of 4,000 stations, with nobody and with its first station left aside.
+/// The arrangements in a region of 4,000 stations, with nobody and, by either standard, with its first station left aside.
 #[test]
 fn a_region_of_4000() {
     if !programs_run() {
@@ -546,8 +591,10 @@ fn a_region_of_4000() {
     for proposal in region_proposals(2, 2) {
         let plain = [&proposal_bytes(&proposal)[..], &table].concat();
         held("fm_arrange", &plain, "a region");
-        let study = [b"a", &table[8..12], &plain].concat();
-        held("fm_study", &study, "a region");
+        for standard in [1, 2] {
+            let study = [b"a", &table[8..12], &[standard], &plain].concat();
+            held("fm_study", &study, "a region");
+        }
     }
 }
 

@@ -5,7 +5,7 @@ mod common;
 use common::{agree_in, class_a, dense, product, table_of_one, IMAGE, LIMIT, LINE, ROWS};
 use fms_bench::made::WRONG_COUNTS;
 use fms_bench::naive::{image_in, image_of, Station};
-use fms_bench::question::{Answer, Proposal, Question};
+use fms_bench::question::{Answer, Proposal, Question, Terms};
 
 /// The question is refused with this, whatever the room; nothing is written.
 fn refused(question: &Question, table: &[u8], number: u32, extra: u32) {
@@ -64,7 +64,7 @@ const STATION: Station = Station {
 };
 
 /// The questions on a table, right ones and ones with faults of their own; the studies with nobody, with the first and the second
-/// record of the table of two, and with an absent id left aside.
+/// record of the table of two, and with an absent id left aside, by either standard and by none.
 fn questions_on_a_table() -> Vec<Question> {
     let right = class_a(100_000, 100_000);
     let wrong = Proposal {
@@ -84,32 +84,30 @@ fn questions_on_a_table() -> Vec<Question> {
             Question::Withdraw { id },
             Question::Move { id, channel },
         ]);
-        for aside in [0, 7, 8, 9] {
-            questions.extend(studies(channel, proposal, aside));
+        for (aside, standard) in [(0, 1), (7, 2), (8, 1), (9, 2), (0, 0), (9, 3)] {
+            questions.extend(studies(channel, proposal, Terms::new(aside, standard)));
         }
     }
     questions
 }
 
-/// Check, Arrange and the reason, of one channel, with an id left aside.
-fn studies(channel: u32, proposal: Proposal, aside: u32) -> [Question; 3] {
-    let arrange = Question::Arrange {
-        first: channel,
-        last: channel,
-        proposal,
-        aside,
-    };
+/// Check, Arrange and the reason, of one channel.
+fn studies(channel: u32, proposal: Proposal, terms: Terms) -> [Question; 3] {
     [
-        Question::check(channel, proposal, aside),
-        arrange,
-        Question::reason(channel, proposal, aside),
+        Question::check(channel, proposal, terms),
+        Question::arrange(channel, channel, proposal, terms),
+        Question::reason(channel, proposal, terms),
     ]
 }
 
-/// The studies of one channel are granted these: the counts of Check and Arrange, and the place of the reason.
+/// The studies of one channel are granted these by either standard, with an id left aside: the counts of Check and Arrange, and the
+/// place of the reason.
 fn studies_granted(channel: u32, proposal: Proposal, aside: u32, table: &[u8], told: [u32; 3]) {
-    for (question, count) in studies(channel, proposal, aside).iter().zip(told) {
-        granted(question, table, count);
+    for standard in [1, 2] {
+        let questions = studies(channel, proposal, Terms::new(aside, standard));
+        for (question, count) in questions.iter().zip(told) {
+            granted(question, table, count);
+        }
     }
 }
 
@@ -387,10 +385,17 @@ fn refusal_12() {
 /// A proposal that is refused with this by the studies and by Add, on an empty table and on one of two.
 fn proposal_refused(channel: u32, proposal: Proposal, number: u32) {
     for table in [image_of(&[]), two()] {
-        // A present id left aside changes nothing, and an absent one comes later.
-        for aside in [0, 7, 9] {
-            for question in studies(channel, proposal, aside) {
+        // A present id left aside and the other standard change nothing, and an absent id comes later.
+        for (aside, standard) in [(0, 1), (7, 2), (9, 1)] {
+            for question in studies(channel, proposal, Terms::new(aside, standard)) {
                 refused(&question, &table, number, 0);
+            }
+        }
+        // A standard that is none comes after 16 and before 17.
+        let first = if number == 17 { 26 } else { number };
+        for (aside, standard) in [(0, 0), (7, 3), (9, 257)] {
+            for question in studies(channel, proposal, Terms::new(aside, standard)) {
+                refused(&question, &table, first, 0);
             }
         }
         // Faults that come later in Add: id 0, an id that is present, a short station.
@@ -450,24 +455,23 @@ fn refusal_13() {
         (0, u32::MAX),
         (301, 220),
     ] {
-        for (proposal, aside) in [(right, 0), (wrong, 0), (right, 9), (wrong, 9)] {
-            let question = Question::Arrange {
-                first,
-                last,
-                proposal,
-                aside,
-            };
-            refused(&question, &two(), 13, 0);
+        for proposal in [right, wrong] {
+            for (aside, standard) in [(0, 1), (0, 2), (9, 1), (9, 3)] {
+                let terms = Terms::new(aside, standard);
+                refused(
+                    &Question::arrange(first, last, proposal, terms),
+                    &two(),
+                    13,
+                    0,
+                );
+            }
         }
     }
     for (first, last) in [(221, 221), (300, 300), (221, 300)] {
-        let question = Question::Arrange {
-            first,
-            last,
-            proposal: right,
-            aside: 0,
-        };
-        granted(&question, &image_of(&[]), 3 * (last - first + 1));
+        for standard in [1, 2] {
+            let question = Question::arrange(first, last, right, Terms::new(0, standard));
+            granted(&question, &image_of(&[]), 3 * (last - first + 1));
+        }
     }
 }
 
@@ -985,46 +989,44 @@ fn refusal_21() {
 
 #[test]
 fn refusal_22() {
-    // Check: three numbers for each short station. The reason is never refused for its room.
-    let [check, _, reason] = studies(250, class_a(0, 0), 0);
-    for (table, count, place) in [
-        (image_of(&[]), 0, 0),
-        (table_of_one(250, 0, 0, 0), 3, 8),
-        (table_of(LINE), 6_000, 8),
-        (table_of(LIMIT), 12_000, 8),
-    ] {
-        granted(&check, &table, count);
-        granted(&reason, &table, place);
+    for standard in [1, 2] {
+        let terms = |aside| Terms::new(aside, standard);
+        // Check: three numbers for each short station. The reason is never refused for its room.
+        let [check, _, reason] = studies(250, class_a(0, 0), terms(0));
+        for (table, count, place) in [
+            (image_of(&[]), 0, 0),
+            (table_of_one(250, 0, 0, 0), 3, 8),
+            (table_of(LINE), 6_000, 8),
+            (table_of(LIMIT), 12_000, 8),
+        ] {
+            granted(&check, &table, count);
+            granted(&reason, &table, place);
+        }
+        // Arrange: the paper's counts.
+        let arrange = |aside| Question::arrange(221, 300, class_a(0, 0), terms(aside));
+        granted(&arrange(0), &image_of(&[]), 240);
+        granted(&arrange(0), &table_of_one(260, 0, 0, 0), 3 * 584);
+        granted(&arrange(0), &table_of(LIMIT), 3 * 73);
+        // With a station left aside, the room is that of the table without it.
+        granted(&arrange(7), &table_of_one(260, 0, 0, 0), 240);
+        for aside in [10, 20_000, 20_010, 40_000] {
+            let [check, _, reason] = studies(250, class_a(0, 0), terms(aside));
+            granted(&check, &table_of(LIMIT), 11_997);
+            granted(&arrange(aside), &table_of(LIMIT), 3 * 73);
+            granted(&reason, &table_of(LIMIT), if aside == 10 { 24 } else { 8 });
+        }
+        let [_, one, _] = studies(260, class_a(0, 0), terms(0));
+        granted(&one, &table_of_one(260, 0, 0, 0), 3 * 73);
+        granted(
+            &one,
+            &image_of(&[Station {
+                channel: 260,
+                flags: 1,
+                ..STATION
+            }]),
+            0,
+        );
     }
-    // Arrange: the paper's counts.
-    let arrange = |aside| Question::Arrange {
-        first: 221,
-        last: 300,
-        proposal: class_a(0, 0),
-        aside,
-    };
-    granted(&arrange(0), &image_of(&[]), 240);
-    granted(&arrange(0), &table_of_one(260, 0, 0, 0), 3 * 584);
-    granted(&arrange(0), &table_of(LIMIT), 3 * 73);
-    // With a station left aside, the room is that of the table without it.
-    granted(&arrange(7), &table_of_one(260, 0, 0, 0), 240);
-    for aside in [10, 20_000, 20_010, 40_000] {
-        let [check, _, reason] = studies(250, class_a(0, 0), aside);
-        granted(&check, &table_of(LIMIT), 11_997);
-        granted(&arrange(aside), &table_of(LIMIT), 3 * 73);
-        granted(&reason, &table_of(LIMIT), if aside == 10 { 24 } else { 8 });
-    }
-    let [_, one, _] = studies(260, class_a(0, 0), 0);
-    granted(&one, &table_of_one(260, 0, 0, 0), 3 * 73);
-    granted(
-        &one,
-        &image_of(&[Station {
-            channel: 260,
-            flags: 1,
-            ..STATION
-        }]),
-        0,
-    );
     // The images: 16 bytes more, 16 less, as many.
     granted(
         &Question::Add {
@@ -1071,8 +1073,8 @@ fn refusal_23() {
     // A nonzero id that the studies should leave aside, before the room that their answers at (0, 0) need.
     for table in &tables {
         for aside in [1, 6, 9, 15, 20_001, 40_001, u32::MAX] {
-            for lat in [SHORT, SPACED] {
-                for question in studies(250, class_a(lat, 0), aside) {
+            for (lat, standard) in [(SHORT, 1), (SHORT, 2), (SPACED, 1)] {
+                for question in studies(250, class_a(lat, 0), Terms::new(aside, standard)) {
                     refused(&question, table, 23, 0);
                 }
             }
@@ -1234,4 +1236,58 @@ fn refusal_25() {
         &table,
         8 + 16 * 5,
     );
+}
+
+/// Numbers that are no standard, also such as are one if they are cut to fewer bits.
+const NO_STANDARDS: [u32; 8] = [
+    0,
+    3,
+    255,
+    256 + 1,
+    256 + 2,
+    65_536 + 1,
+    65_536 + 2,
+    u32::MAX,
+];
+
+/// A standard that is neither 1 nor 2: after a class that the zone does not permit; before a site that is out of range, before an
+/// id that is absent, and before the room.
+#[test]
+fn refusal_26() {
+    for table in [table_of(0), two(), table_of(LINE), table_of(LIMIT)] {
+        for standard in NO_STANDARDS {
+            for lat in [SHORT, SPACED, 270_001] {
+                // Nobody, one of the table of two, one of the dense tables, and one that is absent from all.
+                for aside in [0, 7, 10, 9] {
+                    let terms = Terms::new(aside, standard);
+                    for question in studies(250, class_a(lat, 0), terms) {
+                        refused(&question, &table, 26, 0);
+                    }
+                    let not_permitted = Proposal {
+                        station_class: 1,
+                        ..class_a(lat, 0)
+                    };
+                    for question in studies(250, not_permitted, terms) {
+                        refused(&question, &table, 16, 0);
+                    }
+                }
+            }
+            let terms = Terms::new(0, standard);
+            let arrange = Question::arrange(221, 300, class_a(0, 0), terms);
+            refused(&arrange, &table, 26, 0);
+        }
+    }
+    // Right standards, at the same places: the site comes next, then the id that is absent, then the room.
+    for standard in [1, 2] {
+        for aside in [0, 7, 9] {
+            let terms = Terms::new(aside, standard);
+            for question in studies(250, class_a(270_001, 0), terms) {
+                refused(&question, &two(), 17, 0);
+            }
+        }
+        for question in studies(250, class_a(SHORT, 0), Terms::new(9, standard)) {
+            refused(&question, &two(), 23, 0);
+        }
+    }
+    studies_granted(250, class_a(SHORT, 0), 0, &two(), [3, 3 * 73, 8]);
 }

@@ -1,13 +1,14 @@
 //! measure WHO WHAT SIZE SITES: one workload. Prints what came of it, the same for all who answer alike; then makes the same calls
 //! again from `measured`, so that callgrind can count them alone.
 
-use fms_bench::question::{Answer, Ask, Lent, Proposal, Question};
+use fms_bench::question::{Answer, Ask, Lent, Proposal, Question, Terms};
 use fms_bench::{fms, made, naive, tuned};
 use std::hint::black_box;
 use std::process::exit;
 
 const USAGE: &str = "usage: measure product|tuned|tuned-box|naive \
-    read|check|check-aside|reason|reason-aside|arrange|arrange-aside|arrange-one-by-one|add|withdraw|move 250|2000|4000 SITES";
+    read|check|check-aside|check-lesser|reason|reason-aside|reason-lesser|arrange|arrange-aside|arrange-lesser|\
+    arrange-one-by-one|add|withdraw|move 250|2000|4000 SITES";
 
 /// Who answers.
 fn named(who: &str) -> Option<Ask> {
@@ -25,15 +26,6 @@ fn channels(turn: usize) -> impl Iterator<Item = u32> {
     (0..80).map(move |place| 221 + (7 * turn as u32 + place) % 80)
 }
 
-fn arrange(first: u32, last: u32, proposal: Proposal, aside: u32) -> Question {
-    Question::Arrange {
-        first,
-        last,
-        proposal,
-        aside,
-    }
-}
-
 /// The id of the station nearest to a site, by D, of those that are short on one of some channels; of another where none is.
 fn in_the_way(
     table: &[u8],
@@ -44,7 +36,7 @@ fn in_the_way(
     let mut buffers = Buffers::new();
     let mut nearest = None;
     for channel in channels {
-        let check = Question::check(channel, proposal, 0);
+        let check = Question::check(channel, proposal, Terms::new(0, 1));
         let Answer::Granted(count) = tuned::ask_box(&check, table, buffers.lent()) else {
             panic!("every site is one that may be asked about")
         };
@@ -64,9 +56,10 @@ fn granted(table: &[u8], mut changes: impl Iterator<Item = Question>) -> Vec<Que
     vec![change.expect("one is granted")]
 }
 
-/// The questions of a workload: one for each site, or 80 where each channel is asked for by itself. A station that is left aside
-/// is the nearest that stands in the way. Adds, withdrawals and moves are such as are granted, at places of the table that are
-/// evenly spread; where every channel is blocked at a site, the Add is made at the next site that has a free one.
+/// The questions of a workload: one for each site, or 80 where each channel is asked for by itself. A study is by standard 2 where
+/// it is `lesser`, else by 1. A station that is left aside is the nearest that stands in the way. Adds, withdrawals and moves are
+/// such as are granted, at places of the table that are evenly spread; where every channel is blocked at a site, the Add is made at
+/// the next site that has a free one.
 fn questions(what: &str, table: &[u8], sites: &[Proposal]) -> Option<Vec<Question>> {
     let (records, _) = table[8..].as_chunks::<16>();
     let ids: Vec<u32> = records
@@ -76,27 +69,25 @@ fn questions(what: &str, table: &[u8], sites: &[Proposal]) -> Option<Vec<Questio
     let mut questions = Vec::new();
     for (turn, &proposal) in sites.iter().enumerate() {
         let ids = &ids[turn * ids.len() / sites.len()..];
+        let channel = channels(turn).next().expect("80 channels");
+        let terms = |first, last| match what.split_once('-') {
+            Some((_, "aside")) => Terms::new(in_the_way(table, first..=last, proposal, ids[0]), 1),
+            Some((_, "lesser")) => Terms::new(0, 2),
+            _ => Terms::new(0, 1),
+        };
         questions.extend(match what {
             "read" => vec![Question::Read],
-            "check" | "check-aside" | "reason" | "reason-aside" => {
-                let channel = channels(turn).next().expect("80 channels");
-                let aside = match what {
-                    "check" | "reason" => 0,
-                    _ => in_the_way(table, channel..=channel, proposal, ids[0]),
-                };
-                let ask = match what {
-                    "check" | "check-aside" => Question::check,
-                    _ => Question::reason,
-                };
-                vec![ask(channel, proposal, aside)]
+            "check" | "check-aside" | "check-lesser" => {
+                vec![Question::check(channel, proposal, terms(channel, channel))]
             }
-            "arrange" => vec![arrange(221, 300, proposal, 0)],
-            "arrange-aside" => {
-                let aside = in_the_way(table, 221..=300, proposal, ids[0]);
-                vec![arrange(221, 300, proposal, aside)]
+            "reason" | "reason-aside" | "reason-lesser" => {
+                vec![Question::reason(channel, proposal, terms(channel, channel))]
+            }
+            "arrange" | "arrange-aside" | "arrange-lesser" => {
+                vec![Question::arrange(221, 300, proposal, terms(221, 300))]
             }
             "arrange-one-by-one" => (221..=300)
-                .map(|channel| arrange(channel, channel, proposal, 0))
+                .map(|channel| Question::arrange(channel, channel, proposal, terms(221, 300)))
                 .collect(),
             "add" => {
                 let mut pairs = ids.windows(2);

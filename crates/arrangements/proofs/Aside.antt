@@ -10,8 +10,8 @@ use Rattle.stations.specs.Encode.{encode}
 use Rattle.stations.specs.Lists.{hasId, without}
 use Rattle.stations.specs.declared.Judged.the-variants.{Table}
 use Rattle.desk.specs.Answers.{grant, onTable, onAsked}
-use Rattle.desk.specs.Asked.{askedFault}
-use Rattle.studies.specs.Studies.{asked}
+use Rattle.part73.specs.Standards.{chosen}
+use Rattle.studies.specs.Studies.{asked, wantedFault}
 use Rattle.studies.specs.declared.Wanted.{Wanted}
 use Rattle.studies.proofs.Aside.{whole, study-whole, study-without}
 use Rattle.arrangements.specs.Arrange.{rowsFor, arrangedFor}
@@ -21,7 +21,7 @@ pub aside-arranged : (s : List ℕ) → Bytes s → (n : ℕ) → judged s ≡ T
 unfolding arrangedFor
 aside-arranged s b n e w h = study-without w (rowsFor (asked w) (w .first) (w .last)) s b n e h
 
--- with the id 0 it is that of 01: every station of the table is studied
-pub whole-arranged : (s : List ℕ) (w : Wanted) → arrangedFor s (whole w) ≡ onTable (judged s) (onAsked (askedFault (w .first) (w .last) (w .class) (w .zone) (w .latitude) (w .longitude)) (grant (rowsFor (asked w) (w .first) (w .last) (stations s))))
+-- with the id 0 every station of the table is studied
+pub whole-arranged : (s : List ℕ) (w : Wanted) → arrangedFor s (whole w) ≡ onTable (judged s) (onAsked (wantedFault w) (grant (rowsFor (asked w) (w .first) (w .last) (chosen (w .standard)) (stations s))))
 unfolding arrangedFor
 whole-arranged s w = study-whole w (rowsFor (asked w) (w .first) (w .last)) s

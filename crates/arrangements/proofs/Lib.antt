@@ -4,3 +4,4 @@ pub mod Positions
 pub mod Unique
 pub mod Meaning
 pub mod Aside
+pub mod Standards

@@ -15,7 +15,7 @@ use Rattle.ground.proofs.Tests.{fails, fails-where}
 use Rattle.ground.proofs.Keeps.{every-in}
 use Rattle.ground.proofs.Order.{in-each, in-map, in-keep, in-span, Ascending, none, ahead, Strict, By, strict-by, strict-then, one-ascending, ascending-span, ascending-keep, ascending-map, ascending-each}
 use Rattle.part73.specs.Channels.{lowest, highest, channelCount, newChannels}
-use Rattle.part73.specs.TableA.{tableA}
+use Rattle.part73.specs.Standards.{chosen}
 use Rattle.spacing.specs.Pair.{Assignment}
 use Rattle.stations.specs.Image.{stations, count, Accepted}
 use Rattle.stations.specs.Lists.{hasId, movable, without, onto}
@@ -179,10 +179,10 @@ module _ (km : ℕ → ℕ → ℕ → ℕ) (ss : List Station) where
       only-list l m a b =
           one-ascending strict l m (a .ascending) (b .ascending) (λ x. (λ h. b .exactly x .1 (a .exactly x .0 h), λ h. a .exactly x .1 (b .exactly x .0 h)))
 
--- where table and question pass, the numbers that are granted are those of the one complete list
-pub granted : (s : List ℕ) (w : Wanted) → Accepted s → studyFault (stations s) w ≡ Sound → (l : List Row) → Complete tableA (studied (termsAsked w) (stations s)) (asked w) (w .first) (w .last) l → arrangedFor s w ≡ grant (flat l)
+-- where table and question pass, the numbers that are granted are those of the one complete list by the chosen table
+pub granted : (s : List ℕ) (w : Wanted) → Accepted s → studyFault (stations s) w ≡ Sound → (l : List Row) → Complete (chosen (w .standard)) (studied (termsAsked w) (stations s)) (asked w) (w .first) (w .last) l → arrangedFor s w ≡ grant (flat l)
 unfolding arrangedFor
 granted s w e q l c =
     let ss = studied (termsAsked w) (stations s) in
     granted-on s w (rowsFor (asked w) (w .first) (w .last)) e q
-    ∙ ap (λ (l : List Row). grant (flat l)) (only-list tableA ss (asked w) (w .first) (w .last) _ l (complete tableA ss (asked w) (w .first) (w .last) (studied-ascend s (count s) e (termsAsked w))) c)
+    ∙ ap (λ (l : List Row). grant (flat l)) (only-list (chosen (w .standard)) ss (asked w) (w .first) (w .last) _ l (complete (chosen (w .standard)) ss (asked w) (w .first) (w .last) (studied-ascend s (count s) e (termsAsked w))) c)

@@ -10,11 +10,10 @@ use Rattle.ground.proofs.Spans.{each-cong}
 use Rattle.ground.proofs.Tests.{fails-where}
 use Rattle.ground.proofs.Writes.{flat-keep, flat-each}
 use Rattle.part73.specs.Channels.{lowest, channelCount, newChannels}
-use Rattle.part73.specs.TableA.{tableA}
 use Rattle.spacing.specs.Pair.{sited}
 use Rattle.spacing.specs.declared.Place.{Place}
 use Rattle.stations.specs.Image.{stations, count, Accepted}
-use Rattle.survey.specs.Ways.{looked, studied}
+use Rattle.survey.specs.Ways.{looked, studied, chosenFor}
 use Rattle.survey.specs.Walking.{blocks}
 use Rattle.marking.specs.Marks.{many, seen, Marked}
 use Rattle.marking.specs.declared.Channels.{Channels}
@@ -88,7 +87,7 @@ rows-all t marks flags channels few w p =
 -- ---- the same for the scene of a question
 
 module _ (s : List ℕ) (t : Terms) (p : Place) (channels : Channels) {marks : List ℕ} where
-  pub as-new : Marked (λ m j. blocks tableA (looked t) s (sited p m) j) (channels .first) (channels .last) (count s) marks → Marked (sceneOf s t p .new) (channels .first) (channels .last) (count s) marks
+  pub as-new : Marked (λ m j. blocks (chosenFor t) (looked t) s (sited p m) j) (channels .first) (channels .last) (count s) marks → Marked (sceneOf s t p .new) (channels .first) (channels .last) (count s) marks
   unfolding scene
   as-new w = w
 
@@ -98,6 +97,6 @@ module _ (s : List ℕ) (t : Terms) (p : Place) (channels : Channels) {marks : L
   rows-placed {flags} few w q = rows-all (sceneOf s t p) marks flags channels few w q
 
   pub rows-of : {flags : List Bool} → Accepted s → Marked (sceneOf s t p .new) (channels .first) (channels .last) (count s) marks → Planned (sceneOf s t p) (channels .first) (suc (channels .last)) flags
-      → allRows (idAt s) marks channels flags ≡ rowsFor (sited p) (channels .first) (channels .last) (studied t (stations s))
+      → allRows (idAt s) marks channels flags ≡ rowsFor (sited p) (channels .first) (channels .last) (chosenFor t) (studied t (stations s))
   unfolding studied
-  rows-of e w q = rows-placed (omega (arith, few s e)) w q ∙ sym (ap flat (arrangements-at tableA (looked t) s e (sited p) (channels .first) (channels .last)))
+  rows-of e w q = rows-placed (omega (arith, few s e)) w q ∙ sym (ap flat (arrangements-at (chosenFor t) (looked t) s e (sited p) (channels .first) (channels .last)))

@@ -1,4 +1,4 @@
--- 01, The questions: Arrange; 02, R-1. By enumeration, over the stations that are studied: every new channel of the range;
+-- 01, The questions: Arrange; 02, R-1, R-6. By enumeration, over the stations that are studied: every new channel of the range;
 -- where it is blocked as things stand, every movable station and every channel 221 to 300 but its own; kept where clean.
 -- Assumes nothing.
 use Prim.Native.Nat.{ℕ, suc, _-_}
@@ -8,7 +8,6 @@ use lib.Dec.{eqb}
 use Rattle.ground.specs.Lists.{span, each, keep}
 use Rattle.ground.specs.Rows.{Row, row, flat}
 use Rattle.part73.specs.Channels.{newChannels}
-use Rattle.part73.specs.TableA.{tableA}
 use Rattle.spacing.specs.Pair.{Assignment}
 use Rattle.stations.specs.Lists.{movable, without, onto}
 use Rattle.stations.specs.declared.Station.{Station}
@@ -39,9 +38,9 @@ module _ (km : ℕ → ℕ → ℕ → ℕ) (new : ℕ → Assignment) (ss : Lis
   unfoldable pub arrangements : ℕ → ℕ → List Row
   arrangements first last = each arranged (span first (suc last - first))
 
--- their numbers, by Table A
-abbrev pub rowsFor : (ℕ → Assignment) → ℕ → ℕ → List Station → List ℕ
-rowsFor new first last ss = flat (arrangements tableA new ss first last)
+-- their numbers
+abbrev pub rowsFor : (ℕ → Assignment) → ℕ → ℕ → (ℕ → ℕ → ℕ → ℕ) → List Station → List ℕ
+rowsFor new first last km ss = flat (arrangements km new ss first last)
 
 -- the outcome of the question
 unfoldable pub arrangedFor : List ℕ → Wanted → Outcome

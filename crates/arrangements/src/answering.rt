@@ -1,7 +1,7 @@
 // The answer to a question that passed: the survey, the moves, the rows.
 ghost use Rattle.spacing.specs.Pair.{sited};
 ghost use Rattle.stations.specs.Image.{stations};
-ghost use Rattle.survey.specs.Ways.{studied};
+ghost use Rattle.survey.specs.Ways.{studied, chosenFor};
 ghost use Rattle.studies.specs.Passed.{Passed};
 ghost use Rattle.desk.specs.Answers.{grant, Answered};
 ghost use Rattle.arrangements.specs.Arrange.{rowsFor};
@@ -29,10 +29,10 @@ fn list_with(
     rows: &mut [u32],
 ) -> Answer
     requires { ⌜ Flagged (now table) place channels (now moves) ⌝ }
-    ensures { λ r. ⌜ Answered (grant (rowsFor (sited place) (channels .first) (channels .last) (studied terms (stations (now (table .entry)))))) (now (rows .entry)) (now (rows .exit)) r ⌝ }
+    ensures { λ r. ⌜ Answered (grant (rowsFor (sited place) (channels .first) (channels .last) (chosenFor terms) (studied terms (stations (now (table .entry)))))) (now (rows .entry)) (now (rows .exit)) r ⌝ }
 {
-    let squares = squares::by_table_a();
-    let limits = spacing::limits_by(&squares, place);
+    let squares = standards::squares_by(terms.standard);
+    let limits = spacing::limits_by(&squares, terms.standard, place);
     let mut marks = [0u16; CHANNEL_COUNT];
     survey::survey(table, terms, place, &limits, channels, &mut marks);
     planning::plan(table, terms, place, &squares, channels, &marks, moves);
@@ -48,7 +48,7 @@ pub fn list_asked(
     rows: &mut [u32],
 ) -> Answer
     requires { ⌜ Passed (now table) place channels ⌝ }
-    ensures { λ r. ⌜ Answered (grant (rowsFor (sited place) (channels .first) (channels .last) (studied terms (stations (now (table .entry)))))) (now (rows .entry)) (now (rows .exit)) r ⌝ }
+    ensures { λ r. ⌜ Answered (grant (rowsFor (sited place) (channels .first) (channels .last) (chosenFor terms) (studied terms (stations (now (table .entry)))))) (now (rows .entry)) (now (rows .exit)) r ⌝ }
 {
     if channels.last - channels.first < FEW {
         let mut few = [false; FEW_FLAGS];

@@ -17,8 +17,8 @@ use Rattle.ground.proofs.Tests.{fails}
 use Rattle.ground.proofs.Spans.{length-span, keep-none}
 use Rattle.wire.specs.Be.{be}
 use Rattle.refusals.specs.declared.Refusal.{Refusal}
+use Rattle.part73.specs.Standards.{chosen}
 use Rattle.part73.specs.Channels.{lowest, highest, channelCount, newChannels}
-use Rattle.part73.specs.TableA.{tableA}
 use Rattle.versions.specs.Version.{limit}
 use Rattle.stations.specs.Image.{judged, stationAt, stations, count, Accepted}
 use Rattle.stations.specs.Encode.{encode}
@@ -34,7 +34,7 @@ use Rattle.stations.proofs.Back.{length-encode}
 use Rattle.stations.proofs.Fine.{fine-at}
 use Rattle.spacing.specs.Pair.{Assignment, sited}
 use Rattle.spacing.specs.declared.Place.{Place}
-use Rattle.survey.specs.Ways.{looked, studied, near}
+use Rattle.survey.specs.Ways.{looked, studied, near, chosenFor}
 use Rattle.survey.specs.declared.Terms.{Terms}
 use Rattle.desk.specs.Answers.{grant, deny, onTable, onAsked}
 use Rattle.studies.specs.Studies.{placeAsked, asked as asked′, termsAsked, studyFault, study}
@@ -63,10 +63,10 @@ granted-by false (Refused′ f) v xs vs e = absurd (never f vs e)
 granted-by false (Table n) (Faulty f) xs vs e = absurd (never f vs e)
 granted-by false (Table n) Sound xs vs e = (n, refl, cc)
 
-granted-way : (k : ℕ) (input s : List ℕ) (w : Wanted) (numbers : List Station → List ℕ) (vs : List ℕ) → past k input (study s w numbers) ≡ grant vs → Accepted s × (numbers (studied (termsAsked w) (stations s)) ≡ vs)
+granted-way : (k : ℕ) (input s : List ℕ) (w : Wanted) (numbers : (ℕ → ℕ → ℕ → ℕ) → List Station → List ℕ) (vs : List ℕ) → past k input (study s w numbers) ≡ grant vs → Accepted s × (numbers (chosen (w .standard)) (studied (termsAsked w) (stations s)) ≡ vs)
 unfolding past given study
 granted-way k input s w numbers vs e =
-    let g = granted-by (ltb (length input) k) (judged s) (studyFault (stations s) w) (numbers (studied (termsAsked w) (stations s))) vs e in
+    let g = granted-by (ltb (length input) k) (judged s) (studyFault (stations s) w) (numbers (chosen (w .standard)) (studied (termsAsked w) (stations s))) vs e in
     (is-accepted s (g .0) (g .1), g .2)
 
 -- ---- how many are kept
@@ -87,9 +87,9 @@ keep-less p (suc n) a k lo hi e = go (ℕ-discrete a k) (length-keep p (span (su
 
 -- ---- Check: three numbers for each station
 
-few-short : (a : Assignment) (ss : List Station) → length ss ≤ limit → length (flat (shortRows tableA a ss)) ≤ 3 * limit
+few-short : (km : ℕ → ℕ → ℕ → ℕ) (a : Assignment) (ss : List Station) → length ss ≤ limit → length (flat (shortRows km a ss)) ≤ 3 * limit
 unfolding shortRows
-few-short a ss h = omega (arith, length-flat (shortRows tableA a ss), length-map (keep (near tableA a) ss) (rowOf tableA a), length-keep (near tableA a) ss)
+few-short km a ss h = omega (arith, length-flat (shortRows km a ss), length-map (keep (near km a) ss) (rowOf km a), length-keep (near km a) ss)
 
 -- no more are studied than there are
 few-studied : (s : List ℕ) (t : Terms) → Accepted s → length (studied t (stations s)) ≤ limit
@@ -102,7 +102,7 @@ check-fits t input vs e =
     let s = drop 12 input in
     let p = proposalOf t input in
     let w = granted-way 12 input s (onOne p) (rowsFor (asked p)) vs e in
-    omega (arith, few-short (asked p) (studied t (stations s)) (few-studied s t (w .0)), ap length (w .1))
+    omega (arith, few-short (chosen (t .standard)) (asked p) (studied t (stations s)) (few-studied s t (w .0)), ap length (w .1))
 
 -- ---- Arrange: three numbers for each of the 79 channels that one station may go to
 
@@ -157,11 +157,11 @@ in-band s t p e i h q =
     let b = ltb-true 220 (r .channel) (a .1) in
     (omega arith, fine-at s (count s) e i h .high)
 
-few-arranged : (s : List ℕ) (t : Terms) (p : Place) (c : ℕ) → Accepted s → length (rowsFor′ (sited p) c c (studied t (stations s))) ≤ 3 * (channelCount - 1)
+few-arranged : (s : List ℕ) (t : Terms) (p : Place) (c : ℕ) → Accepted s → length (rowsFor′ (sited p) c c (chosenFor t) (studied t (stations s))) ≤ 3 * (channelCount - 1)
 unfolding studied scene
 few-arranged s t p c e =
     let ss = keep (looked t) (stations s) in
-    omega (arith, length-flat (arrangements tableA (sited p) ss c c), ap length (one-channel tableA (sited p) ss c ∙ arranged-at tableA (looked t) s e (sited p) c), few-rows (sceneOf s t p) c (in-band s t p e))
+    omega (arith, length-flat (arrangements (chosenFor t) (sited p) ss c c), ap length (one-channel (chosenFor t) (sited p) ss c ∙ arranged-at (chosenFor t) (looked t) s e (sited p) c), few-rows (sceneOf s t p) c (in-band s t p e))
 
 pub arrange-fits : (channel : ℕ) (t : Terms) (input vs : List ℕ) → arrangeInput channel channel t input ≡ grant vs → length vs ≤ 3 * (channelCount - 1)
 unfolding arrangeInput arrangedFor

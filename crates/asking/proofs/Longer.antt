@@ -23,7 +23,7 @@ use Rattle.checks.specs.Check.{checkedFor}
 use Rattle.reasons.specs.Reason.{reasonedFor}
 use Rattle.arrangements.specs.Arrange.{arrangedFor}
 use Rattle.changes.specs.Changes.{changedFor}
-use Rattle.asking.specs.Asking.{past, checkInput, reasonInput, arrangeInput, addInput, withdrawInput, moveInput, changeInput, distanceInput}
+use Rattle.asking.specs.Asking.{past, checkInput, reasonInput, standardOf, arrangeInput, addInput, withdrawInput, moveInput, changeInput, distanceInput}
 
 -- the bytes that a program reads
 abbrev pub most : ℕ
@@ -59,7 +59,11 @@ module _ (m : ℕ) (g : enough ≤ m) (input : List ℕ) (h : m < length input) 
 
   long-reason : reasonInput (take m input) ≡ reasonInput input
   unfolding reasonInput reasonedFor study
-  long-reason = too-long 16 (omega arith) _ _
+  long-reason = too-long 17 (omega arith) _ _
+
+  long-standard : standardOf (take m input) ≡ standardOf input
+  unfolding standardOf given
+  long-standard = rw (le-ltb (length (take m input)) 17 (omega (arith, read-long)), le-ltb (length input) 17 (omega arith), be-alike same-front 1 16 (omega arith))
 
   long-arrange : (first last : ℕ) (t : Terms) → arrangeInput first last t (take m input) ≡ arrangeInput first last t input
   unfolding arrangeInput arrangedFor study
@@ -95,6 +99,9 @@ module _ (m : ℕ) (g : enough ≤ m) where
 
   pub read-reason : (input : List ℕ) → reasonInput (take m input) ≡ reasonInput input
   read-reason = read-part m reasonInput (long-reason m g)
+
+  pub read-standard : (input : List ℕ) → standardOf (take m input) ≡ standardOf input
+  read-standard = read-part m standardOf (long-standard m g)
 
   pub read-arrange : (first last : ℕ) (t : Terms) (input : List ℕ) → arrangeInput first last t (take m input) ≡ arrangeInput first last t input
   read-arrange first last t = read-part m (arrangeInput first last t) (λ input h. long-arrange m g input h first last t)

@@ -6,7 +6,6 @@ use mathlib.Core.List.{List}
 use Prim.Native.Nat.{ℕ}
 use native.Mathlib.Omega.{arith}
 use lib.Dec.{ltb}
-use lib.IntN.{ℤ}
 use lib.ListN.{length, drop}
 use borrow.Author.Tests.{le-ltb}
 use Rattle.ground.specs.Guard.{given}
@@ -16,20 +15,20 @@ use Rattle.stations.specs.declared.Judged.{Judged}
 use Rattle.stations.specs.declared.Judged.the-variants.{Table, Refused as Refused′}
 use Rattle.stations.specs.declared.Verdict.{Verdict}
 use Rattle.stations.specs.declared.Verdict.the-variants.{Sound, Faulty}
-use Rattle.survey.specs.Ways.{studied}
+use Rattle.survey.specs.Ways.{studied, chosenFor}
 use Rattle.marking.specs.Marks.{Asked}
 use Rattle.marking.specs.declared.Channels.{Channels}
 use Rattle.survey.specs.declared.Terms.{Terms}
 use Rattle.desk.specs.Answers.{Outcome, grant, deny, onTable, onAsked}
-use Rattle.desk.specs.Asked.{placeFault, askedFault}
-use Rattle.studies.specs.Studies.{asked, asideFault, studyFault, study}
+use Rattle.desk.specs.Asked.{classFault, kindFault, siteFault}
+use Rattle.studies.specs.Studies.{asked, standardFault, wantedFault, asideFault, studyFault, study}
 use Rattle.arrangements.specs.Arrange.{rowsFor, arrangedFor}
 use Rattle.asking.specs.Asking.{endsEarly, past, wantedOf, arrangeInput}
 
 -- new channels that may be asked for are never what is refused
-asked-in : {c : Channels} → Asked c → (class zone : ℕ) (lat lon : ℤ) → askedFault (c .first) (c .last) class zone lat lon ≡ placeFault class zone lat lon
-unfolding askedFault given
-asked-in {c} r class zone lat lon =
+asked-in : {c : Channels} → Asked c → (class zone : ℕ) → kindFault (c .first) (c .last) class zone ≡ classFault class zone
+unfolding kindFault given
+asked-in {c} r class zone =
     rw (
       le-ltb (c .first) lowest (r .low),
       le-ltb highest (c .first) (omega (arith, r .some, r .high)),
@@ -40,7 +39,7 @@ asked-in {c} r class zone lat lon =
 
 -- the rows of a range
 unfoldable pub rowsOf : Terms → List ℕ → ℕ → ℕ → List ℕ
-rowsOf t input first last = rowsFor (asked (wantedOf first last t input)) first last (studied t (stations (drop 10 input)))
+rowsOf t input first last = rowsFor (asked (wantedOf first last t input)) first last (chosenFor t) (studied t (stations (drop 10 input)))
 
 -- an outcome with other rows
 abbrev pub regrant : List ℕ → Outcome → Outcome
@@ -54,9 +53,9 @@ by-stage false (Table n) (Faulty f) xs ys = refl
 by-stage false (Table n) Sound xs ys = refl
 
 pub alike : {c d : Channels} → Asked c → Asked d → (t : Terms) (input : List ℕ) → arrangeInput (d .first) (d .last) t input ≡ regrant (rowsOf t input (d .first) (d .last)) (arrangeInput (c .first) (c .last) t input)
-unfolding arrangeInput arrangedFor study studyFault past given rowsOf
+unfolding arrangeInput arrangedFor study studyFault wantedFault past given rowsOf
 alike {c} {d} r q t input =
     let s = drop 10 input in
     let w = wantedOf (c .first) (c .last) t input in
-    rw (asked-in r (w .class) (w .zone) (w .latitude) (w .longitude), asked-in q (w .class) (w .zone) (w .latitude) (w .longitude))
-    (by-stage (ltb (length input) 10) (judged s) (then (placeFault (w .class) (w .zone) (w .latitude) (w .longitude)) (asideFault (t .aside) (stations s))) (rowsOf t input (c .first) (c .last)) (rowsOf t input (d .first) (d .last)))
+    rw (asked-in r (w .class) (w .zone), asked-in q (w .class) (w .zone))
+    (by-stage (ltb (length input) 10) (judged s) (then (then (classFault (w .class) (w .zone)) (then (standardFault (t .standard)) (siteFault (w .latitude) (w .longitude)))) (asideFault (t .aside) (stations s))) (rowsOf t input (c .first) (c .last)) (rowsOf t input (d .first) (d .last)))

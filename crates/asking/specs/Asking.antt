@@ -1,4 +1,4 @@
--- 01, The programs; 02, R-1, R-2: the question that a program's whole input puts. First what is proposed, big-endian, then the
+-- 01, The programs; 02, R-1, R-2, R-6: the question that a program's whole input puts. First what is proposed, big-endian, then the
 -- table. Assumes nothing.
 use mathlib.Core.Bool.{not}
 use mathlib.Core.List.{List}
@@ -10,6 +10,7 @@ use mir.Syntax.{w32}
 use mir.Val.{toZ}
 use Rattle.ground.specs.Guard.{given}
 use Rattle.wire.specs.Be.{be}
+use Rattle.part73.specs.Standards.{byTableA}
 use Rattle.refusals.specs.Faults.{refusal, UnderEightBytes}
 use Rattle.survey.specs.declared.Terms.{Terms}
 use Rattle.desk.specs.Answers.{Outcome, deny}
@@ -37,16 +38,16 @@ endsEarly = deny (refusal UnderEightBytes)
 unfoldable pub past : ℕ → List ℕ → Outcome → Outcome
 past k input o = given (ltb (length input) k) endsEarly o
 
--- the terms of the programs of 01: nobody is left aside
+-- the terms of the programs of 01: nobody is left aside, and Table A is the standard
 abbrev pub plain : Terms
-plain = record { aside = 0 }
+plain = record { aside = 0; standard = byTableA }
 
 -- ---- Check
 
 -- channel 16, class 8, zone 8, latitude 32, longitude 32
 abbrev pub proposalOf : Terms → List ℕ → Proposal
 proposalOf t s =
-    record { channel = be 2 s 0; class = be 1 s 2; zone = be 1 s 3; latitude = signed s 4; longitude = signed s 8; aside = t .aside }
+    record { channel = be 2 s 0; class = be 1 s 2; zone = be 1 s 3; latitude = signed s 4; longitude = signed s 8; aside = t .aside; standard = t .standard }
 
 unfoldable pub checkInput : Terms → List ℕ → Outcome
 checkInput t input = past 12 input (checkedFor (drop 12 input) (proposalOf t input))
@@ -57,12 +58,16 @@ checkInput t input = past 12 input (checkedFor (drop 12 input) (proposalOf t inp
 unfoldable pub reasonInput : List ℕ → Outcome
 reasonInput input = past (12 + termsLength) input (reasonedFor (drop (12 + termsLength) input) (proposalOf (termsAt input 12) input))
 
+-- the standard that it is asked by; 0 where the input ends before the table
+unfoldable pub standardOf : List ℕ → ℕ
+standardOf input = given (ltb (length input) (12 + termsLength)) 0 (termsAt input 12 .standard)
+
 -- ---- Arrange
 
 -- the same without the channel; the new channels that are asked for are not in the input
 abbrev pub wantedOf : ℕ → ℕ → Terms → List ℕ → Wanted
 wantedOf first last t s =
-    record { first = first; last = last; class = be 1 s 0; zone = be 1 s 1; latitude = signed s 2; longitude = signed s 6; aside = t .aside }
+    record { first = first; last = last; class = be 1 s 0; zone = be 1 s 1; latitude = signed s 2; longitude = signed s 6; aside = t .aside; standard = t .standard }
 
 unfoldable pub arrangeInput : ℕ → ℕ → Terms → List ℕ → Outcome
 arrangeInput first last t input = past 10 input (arrangedFor (drop 10 input) (wantedOf first last t input))

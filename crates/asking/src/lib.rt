@@ -2,7 +2,7 @@
 ghost use mathlib.Core.Path.{_≡_};
 ghost use Rattle.desk.specs.Answers.{Answered};
 ghost use Rattle.reasons.specs.Reason.{outcomeOf};
-ghost use Rattle.asking.specs.Asking.{checkInput, reasonInput, arrangeInput, addInput, withdrawInput, moveInput, changeInput, distanceInput, signed, proposalOf, wantedOf, newcomerOf};
+ghost use Rattle.asking.specs.Asking.{checkInput, reasonInput, arrangeInput, addInput, withdrawInput, moveInput, changeInput, distanceInput, signed, proposalOf, wantedOf, newcomerOf, standardOf};
 ghost use lib.ListN.{length};
 ghost use Prim.Native.Nat.{_+_, _≤_};
 use changes::Newcomer;
@@ -52,6 +52,7 @@ fn proposal(input: &[u8], terms: Terms) -> Proposal
         latitude,
         longitude,
         aside: terms.aside,
+        standard: terms.standard,
     }
 }
 
@@ -72,6 +73,7 @@ fn wanted(input: &[u8], terms: Terms, channel: u32) -> Wanted
         latitude,
         longitude,
         aside: terms.aside,
+        standard: terms.standard,
     }
 }
 
@@ -134,6 +136,17 @@ pub fn asked_reason(input: &[u8]) -> Why
     let terms = subjects::terms_at(input, PROPOSAL);
     let proposed = proposal(input, terms);
     reasons::answer(&input[PROPOSAL + TERMS..], proposed)
+}
+
+// The standard that a reason is asked by.
+pub fn standard_of(input: &[u8]) -> u32
+    ensures { λ r. ⌜ r ≡ standardOf (now (input .entry)) ⌝ }
+{
+    if input.len() < PROPOSAL + TERMS {
+        return 0;
+    }
+    let asked = subjects::terms_at(input, PROPOSAL);
+    asked.standard
 }
 
 // Arrange, for one new channel: 10 bytes, and the table.

@@ -1,4 +1,5 @@
 // One question put to both implementations: answers and whole buffers compared, counted and mixed into the digest.
+use crate::lesser::beside_table_a;
 use crate::question::first_image;
 use crate::question::first_number;
 use crate::question::first_reason;
@@ -90,6 +91,13 @@ pub fn compare_one_place(q: Question, table: &[u8], notes: &mut Notes) -> bool {
     compare_rows(q, table, &mut mine, &mut other, notes)
 }
 
+// Check or arrange, with room for one row.
+pub fn compare_one_row(q: Question, table: &[u8], notes: &mut Notes) -> bool {
+    let mut mine = [4_294_967_295u32; 3];
+    let mut other = [4_294_967_295u32; 3];
+    compare_rows(q, table, &mut mine, &mut other, notes)
+}
+
 // Reason, into two times four numbers alike.
 pub fn compare_reason(q: Question, table: &[u8], filling: u32, notes: &mut Notes) -> bool {
     let mut mine = [filling; 4];
@@ -147,6 +155,7 @@ pub fn compare(
     notes: &mut Notes,
 ) -> bool {
     note_meridian(notes, q, table);
+    beside_table_a(q, table, notes);
     if q.kind <= DISTANCE {
         return compare_number(q, table, notes);
     }

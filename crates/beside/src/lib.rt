@@ -1,5 +1,6 @@
 // The two implementations side by side: a question put to each, and what they answer compared.
 mod comparing;
+mod lesser;
 mod limits;
 mod question;
 
@@ -8,6 +9,7 @@ pub use comparing::compare;
 pub use comparing::compare_all_rows;
 pub use comparing::compare_number;
 pub use comparing::compare_one_place;
+pub use comparing::compare_one_row;
 pub use comparing::compare_reason;
 pub use limits::same_limit;
 pub use question::first_rows;

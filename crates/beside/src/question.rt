@@ -67,7 +67,17 @@ pub fn first_rows(q: Question, table: &[u8], rows: &mut [u32]) -> u64 {
     let lat = signed(q.lat);
     let lon = signed(q.lon);
     if q.kind == CHECK {
-        return fms::fms_check(table, q.channel, q.class, q.zone, lat, lon, q.id, rows);
+        return fms::fms_check(
+            table,
+            q.channel,
+            q.class,
+            q.zone,
+            lat,
+            lon,
+            q.id,
+            q.standard,
+            rows,
+        );
     }
     fms::fms_arrange(
         table,
@@ -78,6 +88,7 @@ pub fn first_rows(q: Question, table: &[u8], rows: &mut [u32]) -> u64 {
         lat,
         lon,
         q.id,
+        q.standard,
         rows,
     )
 }
@@ -87,7 +98,17 @@ pub fn second_rows(q: Question, table: &[u8], rows: &mut [u32]) -> u64 {
     let lat = signed(q.lat);
     let lon = signed(q.lon);
     if q.kind == CHECK {
-        return second::check(table, q.channel, q.class, q.zone, lat, lon, q.id, rows);
+        return second::check(
+            table,
+            q.channel,
+            q.class,
+            q.zone,
+            lat,
+            lon,
+            q.id,
+            q.standard,
+            rows,
+        );
     }
     second::arrange(
         table,
@@ -98,6 +119,7 @@ pub fn second_rows(q: Question, table: &[u8], rows: &mut [u32]) -> u64 {
         lat,
         lon,
         q.id,
+        q.standard,
         rows,
     )
 }
@@ -112,6 +134,7 @@ pub(crate) fn first_reason(q: Question, table: &[u8], told: &mut [u32; 4]) -> u6
         signed(q.lat),
         signed(q.lon),
         q.id,
+        q.standard,
         told,
     )
 }
@@ -126,6 +149,7 @@ pub fn second_reason(q: Question, table: &[u8], told: &mut [u32; 4]) -> u64 {
         signed(q.lat),
         signed(q.lon),
         q.id,
+        q.standard,
         told,
     )
 }

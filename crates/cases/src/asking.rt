@@ -83,6 +83,30 @@ fn asked_zone(state: &mut u64, zone: u32, odds: u32) -> u32
     }
 }
 
+// A number that is no standard.
+fn other_standard(state: &mut u64) -> u32 {
+    match below(state, 8) {
+        0 => 3,
+        1 => 256,
+        2 => 257,
+        3 => 258,
+        4 => 65_537,
+        5 => 2_147_483_649,
+        6 => 4_294_967_295,
+        _ => 0,
+    }
+}
+
+// A standard: Table A or the lesser table, none once in so many times.
+fn asked_standard(state: &mut u64, odds: u32) -> u32
+    requires { ⌜ 0 < odds ⌝ }
+{
+    if once_in(state, odds) {
+        return other_standard(state);
+    }
+    1 + below(state, 2)
+}
+
 // A site that is out of range.
 fn other_site(state: &mut u64) -> Site {
     match below(state, 6) {
@@ -216,6 +240,7 @@ pub fn made_question(state: &mut u64, kind: u32, style: u32, start: u32, n: u32)
     Question {
         kind,
         id: asked_id(state, kind, start, n),
+        standard: asked_standard(state, odds),
         channel,
         last: asked_last(state, channel, n, odds),
         class: asked_class(state, zone, odds),

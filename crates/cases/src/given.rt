@@ -1,5 +1,7 @@
 // Cases with their answers: an id left aside in check, arrange and reason; of reason each column, equals and refusals; of read the
-// versions and their counts; and across the 180th meridian.
+// versions and their counts; across the 180th meridian; and by a standard.
+use super::chosen::standard_case;
+use super::chosen::station_class;
 use super::headers::header_of;
 use super::image::Record;
 use super::image::put_any_header;
@@ -29,7 +31,7 @@ pub struct Given {
 }
 
 // How many there are.
-pub const GIVEN: u32 = 64;
+pub const GIVEN: u32 = 90;
 
 // The bytes of their longest table.
 pub const GIVEN_BYTES: usize = 72;
@@ -76,7 +78,7 @@ pub fn put_given_table(table: &mut [u8], k: u32) -> usize {
             put_seven(table, 250, 0, 0);
             24
         }
-        18..=25 => {
+        18..=25 | 64..=85 => {
             put_seven(table, 260, 0, 0);
             24
         }
@@ -84,9 +86,13 @@ pub fn put_given_table(table: &mut [u8], k: u32) -> usize {
             put_equals(table, 0);
             72
         }
-        32..=34 => {
+        32..=34 | 89 => {
             put_equals(table, 8);
             72
+        }
+        86..=88 => {
+            put_seven(table, 240, station_class(k), 0);
+            24
         }
         49..=63 => {
             let lon = if k < 62 { 4_294_319_305 } else { 647_999 };
@@ -102,11 +108,12 @@ pub fn put_given_table(table: &mut [u8], k: u32) -> usize {
     }
 }
 
-// A question in zone II from a channel on, at a longitude on the equator, with an id left aside.
+// A question in zone II from a channel on, at a longitude on the equator, with an id left aside, by Table A.
 fn asked(kind: u32, channel: u32, class: u32, lon: u32, aside: u32) -> Question {
     Question {
         kind,
         id: aside,
+        standard: 1,
         channel,
         last: 300,
         class,
@@ -165,8 +172,8 @@ pub(crate) fn named(
 }
 
 // The cases in a row: twelve of reason by the paper's separations, and six beside its one station; four each of check and arrange
-// with an id left aside; six of reason beside four stations; one of each where the station left aside is faulty; the headers; and
-// those across the 180th meridian.
+// with an id left aside; six of reason beside four stations; one of each where the station left aside is faulty; the headers;
+// those across the 180th meridian; and those by a standard.
 pub fn given_case(k: u32) -> Given {
     match k {
         12 => named(250, 0, 3_702, 0, 8, [7, 114, 115, 0]),
@@ -194,6 +201,7 @@ pub fn given_case(k: u32) -> Given {
         34 => silent(REASON, 220, 0, 9, 9 * REFUSED + 3),
         35..=48 => silent(READ, 0, 0, 0, header_of(k).answer),
         49..=63 => across_case(k),
+        64..=89 => standard_case(k),
         _ => {
             let told = [7, 0, paper_separation(k), paper_column(k)];
             named(paper_channel(k), paper_class(k), 0, 0, 8, told)

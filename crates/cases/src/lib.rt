@@ -1,6 +1,7 @@
 // The paper's questions, and made questions, tables and runs: numbers from a fixed seed, sites at the limits, and damage.
 mod asking;
 mod chance;
+mod chosen;
 mod damage;
 mod given;
 mod headers;
@@ -10,6 +11,7 @@ mod meridian;
 mod paper;
 mod question;
 mod runs;
+mod sides;
 mod sizes;
 mod tables;
 mod words;
@@ -45,5 +47,8 @@ pub use runs::case_table;
 pub use runs::kind_of;
 pub use runs::records_of;
 pub use runs::run_of;
+pub use sides::SIDES;
+pub use sides::side_class;
+pub use sides::side_question;
 pub use sizes::IMAGE_BYTES;
 pub use sizes::TABLE_BYTES;

@@ -10,8 +10,14 @@ use super::words::north;
 use super::words::site_at;
 ghost use Prim.Native.Nat.{_≤_};
 
-// R of two channels and two classes, 0 where there is none or the first channel cannot be asked.
-pub(crate) fn separation(channel1: u32, class1: u32, channel2: u32, class2: u32) -> u32 {
+// R of two channels and two classes by a standard, 0 where there is none or the first channel cannot be asked.
+pub(crate) fn separation(
+    standard: u32,
+    channel1: u32,
+    class1: u32,
+    channel2: u32,
+    class2: u32,
+) -> u32 {
     if channel1 < 221 {
         return 0;
     }
@@ -19,6 +25,7 @@ pub(crate) fn separation(channel1: u32, class1: u32, channel2: u32, class2: u32)
         return 0;
     }
     second_rule::separation(
+        standard as u64,
         channel1 as u64,
         class1 as u64,
         channel2 as u64,
@@ -32,7 +39,7 @@ fn reaches(north1: u32, north2: u32, seconds: u32, r: u32) -> bool {
 }
 
 // The fewest seconds of longitude at which two sites on two latitudes are at least r km from each other, found by halving.
-fn edge(north1: u32, north2: u32, r: u32) -> u32
+pub(crate) fn edge(north1: u32, north2: u32, r: u32) -> u32
     ensures { λ e. ⌜ e ≤ 65536 ⌝ }
 {
     let mut low: u32 = 0;

@@ -5,11 +5,12 @@ use super::image::put_record;
 use super::question::Question;
 use super::words::Site;
 
-// A question of a class in zone II at a longitude on the equator; the second site is the crossing with the meridian.
+// A question of a class in zone II at a longitude on the equator, by Table A; the second site is the crossing with the meridian.
 pub fn paper_question(kind: u32, first: u32, last: u32, class: u32, lon: u32) -> Question {
     Question {
         kind,
         id: 0,
+        standard: 1,
         channel: first,
         last,
         class,

@@ -15,11 +15,12 @@ pub const ARRANGE: u32 = 6;
 
 pub const REASON: u32 = 7;
 
-// What is asked: which question, and the numbers of all questions; check, arrange and reason leave the id aside; coordinates are
-// words.
+// What is asked: which question, and the numbers of all questions; check, arrange and reason leave the id aside and go by the
+// standard; coordinates are words.
 pub struct Question {
     pub kind: u32,
     pub id: u32,
+    pub standard: u32,
     pub channel: u32,
     pub last: u32,
     pub class: u32,

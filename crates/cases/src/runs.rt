@@ -75,7 +75,7 @@ pub fn run_of(k: u32) -> Run {
         },
         // Small tables at the limits.
         1 => Run {
-            cases: 43_000,
+            cases: 40_000,
             question: ALL_BUT_ARRANGE,
             fewest: 0,
             more: 12,
@@ -142,7 +142,7 @@ pub fn run_of(k: u32) -> Run {
         17 => around(LIMIT, 50, CHECK, CROWDED, false),
         // Reasons among equals.
         18 => Run {
-            cases: 9_000,
+            cases: 8_000,
             question: REASON,
             fewest: 0,
             more: 16,

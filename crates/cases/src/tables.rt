@@ -164,11 +164,12 @@ fn site_at_limits(state: &mut u64, from: Site, km: u32, r: u32) -> Site {
     }
 }
 
-// A record at the same site as another, at the limit from it, or some km away.
+// A record at the same site as another, at the limit from it by either standard, or some km away.
 fn record_at_limits(state: &mut u64, id: u32, from: Record) -> Record {
     let class = below(state, 8);
     let channel = near_channel(state, from.channel);
-    let r = separation(from.channel, from.class, channel, class);
+    let standard = 1 + below(state, 2);
+    let r = separation(standard, from.channel, from.class, channel, class);
     let km = below(state, 300);
     let site = site_at_limits(state, from.site, km, r);
     Record {

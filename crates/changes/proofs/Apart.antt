@@ -8,6 +8,7 @@ use Prim.Native.Nat.{ℕ, _+_, _≤_, _<_}
 use native.Mathlib.Numerals.{add-one}
 use native.Mathlib.Omega.{arith}
 use native.Mathlib.Decide.{ℕ-discrete}
+use lib.IntN.{ℤ}
 use lib.Dec.{leb}
 use lib.ListN.{length, drop, getD}
 use lib.Seq.{drop-cons}
@@ -21,13 +22,14 @@ use Rattle.ground.proofs.Firsts.{first-found, first-past, some-first}
 use Rattle.refusals.specs.declared.Refusal.{Refusal}
 use Rattle.refusals.specs.Faults.{Fault, refusal, AskedChannel, IdZero, IdPresent, Short, TableFull, IdAbsent, NotMovable}
 use Rattle.versions.specs.Version.{limit}
+use Rattle.stations.specs.Image.{then}
 use Rattle.stations.specs.Lists.{hasId, onto, insert, without, rechannel, Apart}
 use Rattle.stations.specs.declared.Station.{Station}
 use Rattle.stations.specs.declared.Verdict.{Verdict}
 use Rattle.stations.specs.declared.Verdict.the-variants.{Sound, Faulty}
 use Rattle.stations.proofs.Ids.{Ascends, with-one, with-found, one-id}
 use Rattle.stations.proofs.Changed.{without-none, in-without}
-use Rattle.desk.specs.Asked.{placeFault, askedFault}
+use Rattle.desk.specs.Asked.{classFault, kindFault, siteFault, askedFault}
 use Rattle.finding.specs.Conflicts.{shortTo, conflicts}
 use Rattle.changes.specs.Changes.{add, move, Decision, allow, refuse, not-for, onVerdict, entered, decide}
 use Rattle.changes.specs.declared.Newcomer.{Newcomer}
@@ -152,14 +154,25 @@ abbrev Low : Verdict → Type 0
 Low Sound = Unit {0}
 Low (Faulty f) = f .number < 18
 
-asked-low : (w : Newcomer) → Low (askedOf w)
-unfolding askedFault placeFault
-asked-low w =
+then-low : (v u : Verdict) → Low v → Low u → Low (then v u)
+then-low Sound u l k = k
+then-low (Faulty f) u l k = l
+
+kind-low : (first last class zone : ℕ) → Low (kindFault first last class zone)
+unfolding kindFault classFault
+kind-low first last class zone =
     either Low _ _ _ (λ _. omega arith)
     (λ _. either Low _ _ _ (λ _. omega arith)
     (λ _. either Low _ _ _ (λ _. omega arith)
-    (λ _. either Low _ _ _ (λ _. omega arith)
-    (λ _. either Low _ _ _ (λ _. omega arith) (λ _. tt)))))
+    (λ _. either Low _ _ _ (λ _. omega arith) (λ _. tt))))
+
+site-low : (latitude longitude : ℤ) → Low (siteFault latitude longitude)
+unfolding siteFault
+site-low latitude longitude = either Low _ _ _ (λ _. omega arith) (λ _. tt)
+
+asked-low : (w : Newcomer) → Low (askedOf w)
+unfolding askedFault
+asked-low w = then-low (kindFault (w .channel) (w .channel) (w .class) (w .zone)) _ (kind-low (w .channel) (w .channel) (w .class) (w .zone)) (site-low (w .latitude) (w .longitude))
 
 passed-low : (v : Verdict) (d : Decision) (f : Refusal) → Low v → 18 ≤ f .number → onVerdict v d ≡ refuse f → d ≡ refuse f
 passed-low Sound d f l h e = e

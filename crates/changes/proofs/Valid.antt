@@ -17,9 +17,10 @@ use Rattle.changes.proofs.Grants.{AddPasses, added, withdrawn, moved}
 fine-entered : (t : ℕ) (ss : List Station) (w : Newcomer) → AddPasses ss w → Fine t (entered w)
 fine-entered t ss w a =
     let f = fair (w .channel) (w .channel) (w .class) (w .zone) (w .latitude) (w .longitude) (a .asked) in
-    let l = f .low in
-    let k = f .fits .known in
-    record { counts = a .counts; low = omega arith; high = f .high; class = omega arith; flags = omega arith; placed = f .fits .placed }
+    let k = f .kind in
+    let l = k .low in
+    let c = k .known in
+    record { counts = a .counts; low = omega arith; high = k .high; class = omega arith; flags = omega arith; placed = f .placed }
 
 pub granted-valid : (ss : List Station) (c : Change) (rs : List Station) → named c < 2 ^ 32 → Valid ss → decide ss c ≡ allow rs → Valid rs
 granted-valid ss (add w) rs h k e =

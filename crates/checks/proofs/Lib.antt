@@ -2,3 +2,4 @@ pub mod Meaning
 pub mod Listing
 pub mod Aside
 pub mod Passing
+pub mod Standards

@@ -7,10 +7,9 @@ use lib.ListN.{length, getD, take, drop, length-map, drop-of-length-le}
 use lib.Seq.{drop-cons, getD-take, length-take-le}
 use Rattle.ground.specs.Lists.{span, each}
 use Rattle.ground.specs.Rows.{Row, flat}
-use Rattle.part73.specs.TableA.{tableA}
 use Rattle.spacing.specs.Pair.{Assignment}
 use Rattle.stations.specs.Image.{stations, Accepted}
-use Rattle.survey.specs.Ways.{looked, studied}
+use Rattle.survey.specs.Ways.{looked, studied, chosenFor}
 use Rattle.survey.specs.declared.Terms.{Terms}
 use Rattle.nearby.specs.Positions.{shortPositions, Noted}
 use Rattle.nearby.proofs.Noted.{said-noted}
@@ -43,6 +42,6 @@ module _ (g : ℕ → Row) (hits : List ℕ) (k : ℕ) (h : k ≤ length hits) w
 -- ---- the rows of the question
 
 -- where the short stations of those that are studied are noted
-pub rows-noted : (s : List ℕ) → Accepted s → (t : Terms) (p : Assignment) {hits : List ℕ} {k : ℕ} → Noted (shortPositions tableA (looked t) s p) hits k → rowsAt s p (take k hits) ≡ shortRows tableA p (studied t (stations s))
+pub rows-noted : (s : List ℕ) → Accepted s → (t : Terms) (p : Assignment) {hits : List ℕ} {k : ℕ} → Noted (shortPositions (chosenFor t) (looked t) s p) hits k → rowsAt (chosenFor t) s p (take k hits) ≡ shortRows (chosenFor t) p (studied t (stations s))
 unfolding shortRows
-rows-noted s e t p w = said-noted s e t p w (rowOf tableA p)
+rows-noted s e t p w = said-noted s e t p w (rowOf (chosenFor t) p)

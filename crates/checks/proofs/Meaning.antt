@@ -9,7 +9,7 @@ use borrow.Author.Tests.{ltb-true, lt-ltb}
 use Rattle.ground.specs.Lists.{_∈_, keep}
 use Rattle.ground.specs.Rows.{Row, flat}
 use Rattle.ground.proofs.Order.{in-keep, in-map, Ascending, By, ascending-keep, ascending-map, strict-by, one-ascending}
-use Rattle.part73.specs.TableA.{tableA}
+use Rattle.part73.specs.Standards.{chosen}
 use Rattle.spacing.specs.Pair.{Assignment, shortBy}
 use Rattle.stations.specs.Image.{stations, count, Accepted}
 use Rattle.stations.specs.declared.Station.{Station}
@@ -68,13 +68,14 @@ module _ (km : ℕ → ℕ → ℕ → ℕ) (p : Assignment) where
       only-list l a f =
           one-ascending (strict-by (λ (x : Row). x .a)) l (shortRows km p ss) a rows-ascend (λ x. (λ m. short-listed x .1 (f x .0 m), λ m. f x .1 (short-listed x .0 m)))
 
--- what is granted to a proposal that passes its checks: the one list of the rows of its short stations, of those that are studied
+-- what is granted to a proposal that passes its checks: the one list of the rows of its short stations by the chosen table, of those
+-- that are studied
 pub granted : (s : List ℕ) (p : Proposal) → Accepted s → studyFault (stations s) (onOne p) ≡ Sound
-    → (l : List Row) → Ascending Before l → ((x : Row) → (x ∈ l) ↔ ShortRow tableA (asked p) (studied (termsAsked (onOne p)) (stations s)) x) → checkedFor s p ≡ grant (flat l)
+    → (l : List Row) → Ascending Before l → ((x : Row) → (x ∈ l) ↔ ShortRow (chosen (p .standard)) (asked p) (studied (termsAsked (onOne p)) (stations s)) x) → checkedFor s p ≡ grant (flat l)
 unfolding checkedFor
 granted s p e q l a h =
     let t = termsAsked (onOne p) in
-    rw (only-list tableA (asked p) (studied t (stations s)) (studied-ascend s (count s) e t) l a h) (granted-on s (onOne p) (rowsFor (asked p)) e q)
+    rw (only-list (chosen (p .standard)) (asked p) (studied t (stations s)) (studied-ascend s (count s) e t) l a h) (granted-on s (onOne p) (rowsFor (asked p)) e q)
 
 -- two results that meet the promise are equal
 pub one-check : (s : List ℕ) (p : Proposal) {entry exit exit′ : List ℕ} {r r′ : Answer} → Answered (checkedFor s p) entry exit r → Answered (checkedFor s p) entry exit′ r′ → (exit ≡ exit′) × (r ≡ r′)

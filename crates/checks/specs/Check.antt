@@ -1,10 +1,9 @@
--- 01, The questions: Check; 02, R-1. Three numbers for each short station that is studied, in table order: id, D, R.
+-- 01, The questions: Check; 02, R-1, R-6. Three numbers for each short station that is studied, in table order: id, D, R.
 -- Assumes nothing.
 use Prim.Native.Nat.{ℕ}
 use mathlib.Core.List.{List, map}
 use Rattle.ground.specs.Lists.{keep}
 use Rattle.ground.specs.Rows.{Row, row, flat}
-use Rattle.part73.specs.TableA.{tableA}
 use Rattle.spacing.specs.Pair.{Assignment, assignment}
 use Rattle.stations.specs.declared.Station.{Station}
 use Rattle.survey.specs.Ways.{near}
@@ -21,7 +20,7 @@ asked p = assignment (p .channel) (p .class) (p .latitude) (p .longitude)
 -- what is wanted of the study: that channel alone
 abbrev pub onOne : Proposal → Wanted
 onOne p =
-    record { first = p .channel; last = p .channel; class = p .class; zone = p .zone; latitude = p .latitude; longitude = p .longitude; aside = p .aside }
+    record { first = p .channel; last = p .channel; class = p .class; zone = p .zone; latitude = p .latitude; longitude = p .longitude; aside = p .aside; standard = p .standard }
 
 -- id, D, R of a station, by a table of separations
 unfoldable pub rowOf : (ℕ → ℕ → ℕ → ℕ) → Assignment → Station → Row
@@ -30,9 +29,9 @@ rowOf km p r = let n = neighbourOf km p r in row (n .id) (n .distance) (n .separ
 unfoldable pub shortRows : (ℕ → ℕ → ℕ → ℕ) → Assignment → List Station → List Row
 shortRows km p ss = map (rowOf km p) (keep (near km p) ss)
 
--- their numbers, by Table A
-abbrev pub rowsFor : Assignment → List Station → List ℕ
-rowsFor p ss = flat (shortRows tableA p ss)
+-- their numbers
+abbrev pub rowsFor : Assignment → (ℕ → ℕ → ℕ → ℕ) → List Station → List ℕ
+rowsFor p km ss = flat (shortRows km p ss)
 
 -- the outcome of the question
 unfoldable pub checkedFor : List ℕ → Proposal → Outcome

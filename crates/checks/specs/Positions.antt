@@ -2,7 +2,6 @@
 use Prim.Native.Nat.{ℕ, _≤_}
 use mathlib.Core.List.{List, map}
 use Rattle.ground.specs.Rows.{Row}
-use Rattle.part73.specs.TableA.{tableA}
 use Rattle.spacing.specs.Pair.{Assignment}
 use Rattle.spacing.specs.Reaching.{InRange}
 use Rattle.spacing.specs.declared.Place.{Place}
@@ -11,8 +10,8 @@ use Rattle.nearby.specs.Positions.{Asked}
 use Rattle.neighbours.specs.Inside.{Beside}
 use Rattle.checks.specs.Check.{rowOf}
 
-abbrev pub rowsAt : List ℕ → Assignment → List ℕ → List Row
-rowsAt s p vs = map (λ j. rowOf tableA p (stationAt s j)) vs
+abbrev pub rowsAt : (ℕ → ℕ → ℕ → ℕ) → List ℕ → Assignment → List ℕ → List Row
+rowsAt km s p vs = map (λ j. rowOf km p (stationAt s j)) vs
 
 -- what the row of a position asks, from a place of the buffer on
 pub record RowAt (s : List ℕ) (p : Place) (i at : ℕ) : Type 0 where

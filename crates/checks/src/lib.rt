@@ -2,7 +2,7 @@
 ghost use mathlib.Core.Path.{_≡_};
 ghost use Rattle.spacing.specs.Pair.{sited};
 ghost use Rattle.stations.specs.Image.{stations};
-ghost use Rattle.survey.specs.Ways.{studied};
+ghost use Rattle.survey.specs.Ways.{studied, chosenFor};
 ghost use Rattle.desk.specs.Answers.{Answered, grant};
 ghost use Rattle.checks.specs.Check.{onOne, rowsFor, checkedFor};
 ghost use Rattle.checks.specs.Positions.{Passed};
@@ -19,8 +19,8 @@ use survey::Terms;
 use versions::LIMIT;
 use writing::put_noted;
 
-// What is proposed: a station of a class on a channel at a site, in a zone; and the id of the record that is left aside, 0 for
-// none.
+// What is proposed: a station of a class on a channel at a site, in a zone; the id of the record that is left aside, 0 for none;
+// and the standard.
 pub struct Proposal {
     pub channel: u32,
     pub class: u32,
@@ -28,12 +28,13 @@ pub struct Proposal {
     pub latitude: i32,
     pub longitude: i32,
     pub aside: u32,
+    pub standard: u32,
 }
 
 // The rows of a proposal that passed its checks; 22 where they do not fit.
 fn list(table: &[u8], terms: Terms, channel: usize, place: Place, rows: &mut [u32]) -> Answer
     requires { ⌜ Passed (now table) channel place ⌝ }
-    ensures { λ r. ⌜ Answered (grant (rowsFor (sited place channel) (studied terms (stations (now (table .entry)))))) (now (rows .entry)) (now (rows .exit)) r ⌝ }
+    ensures { λ r. ⌜ Answered (grant (rowsFor (sited place channel) (chosenFor terms) (studied terms (stations (now (table .entry)))))) (now (rows .entry)) (now (rows .exit)) r ⌝ }
 {
     let mut hits = [NO_POSITION; LIMIT];
     let k = nearby::note_short(table, terms, channel, place, &mut hits);
@@ -42,7 +43,7 @@ fn list(table: &[u8], terms: Terms, channel: usize, place: Place, rows: &mut [u3
         let extra = need as u32;
         return desk::refused_with(refusals::DOES_NOT_FIT, extra);
     }
-    let written = put_noted(table, channel, place, &hits, k, rows);
+    let written = put_noted(table, terms.standard, channel, place, &hits, k, rows);
     let count = written as u32;
     Answer::Granted(count)
 }
@@ -59,6 +60,7 @@ pub fn on_one(proposal: Proposal) -> Wanted
         latitude: proposal.latitude,
         longitude: proposal.longitude,
         aside: proposal.aside,
+        standard: proposal.standard,
     }
 }
 

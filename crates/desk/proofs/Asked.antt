@@ -11,7 +11,8 @@ use Rattle.distance.specs.Distance.{latitudeOk, longitudeOk, Placed}
 use Rattle.part73.specs.Classes.{isClass}
 use Rattle.refusals.specs.declared.Refusal.{Refusal}
 use Rattle.stations.specs.declared.Verdict.the-variants.{Sound, Faulty}
-use Rattle.desk.specs.Asked.{outside, siteOk, placeFault, askedFault}
+use Rattle.stations.proofs.Stages.{then-sound}
+use Rattle.desk.specs.Asked.{outside, siteOk, classFault, kindFault, siteFault, askedFault}
 
 never : (f : Refusal) → Faulty f ≡ Sound → ⊥
 never f e = let z : _≡_ {A = ℕ} 0 1 = cc in omega arith
@@ -22,30 +23,24 @@ site-placed latitude longitude e =
     let h = and-was _ (leb (natAbs longitude) 648000) e in
     record { north = leb-true (natAbs latitude) 270000 (h .0); east = leb-true (natAbs longitude) 648000 (h .1) }
 
--- a class, and a site in range
-pub record Fit (class : ℕ) (latitude longitude : ℤ) : Type 0 where
-  pub known : class < 8
-  pub placed : Placed latitude longitude
+pub class-known : (class zone : ℕ) → classFault class zone ≡ Sound → class < 8
+unfolding classFault isClass
+class-known class zone e = let a = past _ _ _ _ e (never _) in omega (arith, leb-true class 7 (not-false _ (a .0)))
 
-pub fit : (class zone : ℕ) (latitude longitude : ℤ) → placeFault class zone latitude longitude ≡ Sound → Fit class latitude longitude
-unfolding placeFault isClass
-fit class zone latitude longitude e =
-    let a = past _ _ _ _ e (never _) in
-    let b = past _ _ _ _ (a .1) (never _) in
-    let c = past _ _ _ _ (b .1) (never _) in
-    let d = past _ _ _ _ (c .1) (never _) in
-    record { known = omega (arith, leb-true class 7 (not-false _ (a .0))); placed = site-placed latitude longitude (not-false _ (d .0)) }
+pub site-sound : (latitude longitude : ℤ) → siteFault latitude longitude ≡ Sound → Placed latitude longitude
+unfolding siteFault
+site-sound latitude longitude e = let a = past _ _ _ _ e (never _) in site-placed latitude longitude (not-false _ (a .0))
 
--- and new channels from 221 to 300
-pub record Fair (first last class : ℕ) (latitude longitude : ℤ) : Type 0 where
+-- new channels from 221 to 300, and a class
+pub record Kind (first last class : ℕ) : Type 0 where
   pub low : 221 ≤ first
   pub order : first ≤ last
   pub high : last ≤ 300
-  pub fits : Fit class latitude longitude
+  pub known : class < 8
 
-pub fair : (first last class zone : ℕ) (latitude longitude : ℤ) → askedFault first last class zone latitude longitude ≡ Sound → Fair first last class latitude longitude
-unfolding askedFault
-fair first last class zone latitude longitude e =
+pub kind : (first last class zone : ℕ) → kindFault first last class zone ≡ Sound → Kind first last class
+unfolding kindFault
+kind first last class zone e =
     let a = past _ _ _ _ e (never _) in
     let r = or-was _ _ (a .0) in
     let q = or-was (outside first) (outside last) (r .0) in
@@ -55,5 +50,16 @@ fair first last class zone latitude longitude e =
       low = ltb-false first 221 (f .0);
       order = ltb-false last first (r .1);
       high = ltb-false 300 last (l .1);
-      fits = fit class zone latitude longitude (a .1);
+      known = class-known class zone (a .1);
     }
+
+-- and a site in range
+pub record Fair (first last class : ℕ) (latitude longitude : ℤ) : Type 0 where
+  pub kind : Kind first last class
+  pub placed : Placed latitude longitude
+
+pub fair : (first last class zone : ℕ) (latitude longitude : ℤ) → askedFault first last class zone latitude longitude ≡ Sound → Fair first last class latitude longitude
+unfolding askedFault
+fair first last class zone latitude longitude e =
+    let v = then-sound (kindFault first last class zone) (siteFault latitude longitude) e in
+    record { kind = kind first last class zone (v .0); placed = site-sound latitude longitude (v .1) }

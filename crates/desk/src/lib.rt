@@ -1,7 +1,7 @@
 // What all questions share, and the two questions without a buffer: read, and the distance of two sites.
 ghost use mathlib.Core.Path.{_≡_};
 ghost use Rattle.desk.specs.Answers.{leave};
-ghost use Rattle.desk.specs.Asked.{siteOk, placeFault, askedFault};
+ghost use Rattle.desk.specs.Asked.{siteOk, classFault, kindFault, siteFault, askedFault};
 ghost use Rattle.desk.specs.Questions.{readOf, distanceOf};
 use part73::HIGHEST_ASKED;
 use part73::LOWEST_ASKED;
@@ -49,9 +49,9 @@ pub fn site_ok(latitude: i32, longitude: i32) -> bool
     false
 }
 
-// The first that applies of 14 to 17.
-pub fn place_fault(class: u32, zone: u32, latitude: i32, longitude: i32) -> Verdict
-    ensures { λ r. ⌜ r ≡ placeFault class zone latitude longitude ⌝ }
+// The first that applies of 14 to 16.
+fn class_fault(class: u32, zone: u32) -> Verdict
+    ensures { λ r. ⌜ r ≡ classFault class zone ⌝ }
 {
     if !part73::is_class(class) {
         return faulty(refusals::ASKED_CLASS);
@@ -62,6 +62,35 @@ pub fn place_fault(class: u32, zone: u32, latitude: i32, longitude: i32) -> Verd
     if !part73::permitted(zone, class) {
         return faulty(refusals::NOT_PERMITTED);
     }
+    Verdict::Sound
+}
+
+// The first that applies of 13 to 16.
+pub fn kind_fault(first: u32, last: u32, class: u32, zone: u32) -> Verdict
+    ensures { λ r. ⌜ r ≡ kindFault first last class zone ⌝ }
+{
+    if first < LOWEST_ASKED {
+        return faulty(refusals::ASKED_CHANNEL);
+    }
+    if HIGHEST_ASKED < first {
+        return faulty(refusals::ASKED_CHANNEL);
+    }
+    if last < LOWEST_ASKED {
+        return faulty(refusals::ASKED_CHANNEL);
+    }
+    if HIGHEST_ASKED < last {
+        return faulty(refusals::ASKED_CHANNEL);
+    }
+    if last < first {
+        return faulty(refusals::ASKED_CHANNEL);
+    }
+    class_fault(class, zone)
+}
+
+// 17 where a site is out of range.
+pub fn site_fault(latitude: i32, longitude: i32) -> Verdict
+    ensures { λ r. ⌜ r ≡ siteFault latitude longitude ⌝ }
+{
     if !site_ok(latitude, longitude) {
         return faulty(refusals::ASKED_SITE);
     }
@@ -79,22 +108,11 @@ pub fn asked_fault(
 ) -> Verdict
     ensures { λ r. ⌜ r ≡ askedFault first last class zone latitude longitude ⌝ }
 {
-    if first < LOWEST_ASKED {
-        return faulty(refusals::ASKED_CHANNEL);
+    let v = kind_fault(first, last, class, zone);
+    if let Verdict::Faulty(f) = v {
+        return Verdict::Faulty(f);
     }
-    if HIGHEST_ASKED < first {
-        return faulty(refusals::ASKED_CHANNEL);
-    }
-    if last < LOWEST_ASKED {
-        return faulty(refusals::ASKED_CHANNEL);
-    }
-    if HIGHEST_ASKED < last {
-        return faulty(refusals::ASKED_CHANNEL);
-    }
-    if last < first {
-        return faulty(refusals::ASKED_CHANNEL);
-    }
-    place_fault(class, zone, latitude, longitude)
+    site_fault(latitude, longitude)
 }
 
 // How many stations a table has.

@@ -6,12 +6,14 @@ use Prim.Native.Nat.{ℕ, zero, suc, _+_, _-_, _≤_, _<_}
 use native.Mathlib.Omega.{arith}
 use native.Mathlib.Decide.{decLt}
 use lib.ListN.{drop}
+use Rattle.ground.specs.Guard.{given}
 use Rattle.ground.specs.Lists.{first}
 use Rattle.ground.specs.Passing.{Passing}
+use Rattle.part73.specs.Standards.{byTableA, chosen}
 use Rattle.stations.specs.Image.{stationAt, stations, count, Accepted}
 use Rattle.stations.specs.declared.Station.{Station}
 use Rattle.stations.proofs.Table.{whole, first-here, first-on, first-end}
-use Rattle.survey.specs.Ways.{asItStands, looked}
+use Rattle.survey.specs.Ways.{asItStands, looked, chosenFor}
 use Rattle.survey.specs.Walking.{blocks}
 use Rattle.survey.specs.declared.Terms.{Terms}
 use Rattle.nearby.specs.Positions.{NextShort}
@@ -37,11 +39,11 @@ module _ (s : List ℕ) (e : Accepted s) where
         go (yes l) = omega (arith, here, first-here (whole s (count s) e) p to l (h l))
         go (no n) = omega (arith, here, first-end (whole s (count s) e) p to (omega arith))
 
-  -- all but the station's own record
+  -- all but the station's own record, by Table A
   abbrev pub others : Station → Terms
-  others r = record { aside = r .id }
+  others r = record { aside = r .id; standard = byTableA }
 
   -- so the next one that is looked at and short, from the start on, is the first that stands in the way
-  pub first-found : (r : Station) (to : ℕ) → NextShort (looked (others r)) s (asItStands r) 0 to → to ≡ first (conflicts r) (stations s)
-  unfolding conflicts blocks looked
+  pub first-found : (r : Station) (to : ℕ) → NextShort (chosenFor (others r)) (looked (others r)) s (asItStands r) 0 to → to ≡ first (conflicts r) (stations s)
+  unfolding conflicts blocks looked chosen given
   first-found r to w = found (conflicts r) to (w .passed) (w .short)

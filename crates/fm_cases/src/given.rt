@@ -1,4 +1,5 @@
-// The cases whose answers are given: check and arrange with an id left aside, reason, read, and across the 180th meridian.
+// The cases whose answers are given: check and arrange with an id left aside, reason, read, across the 180th meridian, and by a
+// standard.
 use beside::compare_all_rows;
 use beside::compare_number;
 use beside::compare_one_place;

@@ -11,6 +11,7 @@ use cases::TABLE_BYTES;
 use cases::run_of;
 use given::given_cases;
 use limits::limits_alike;
+use limits::sides_alike;
 use made::run_cases;
 use paper::paper_cases;
 use tally::Notes;
@@ -53,6 +54,13 @@ fn all_cases(notes: &mut Notes) -> bool {
         return false;
     }
     io::write_all(1, b"the limits of all classes and columns are alike\n");
+    if !sides_alike(notes) {
+        return false;
+    }
+    io::write_all(
+        1,
+        b"on both sides of each, by both standards, the answers are alike\n",
+    );
     made_cases(notes)
 }
 

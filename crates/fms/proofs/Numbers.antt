@@ -7,7 +7,7 @@ use native.Mathlib.Omega.{arith}
 use lib.IntN.{ℤ}
 use lib.ListN.{length}
 use Rattle.ground.proofs.Cases.{either}
-use Rattle.refusals.specs.Faults.{Fault, refusal, UnderEightBytes, MarkDiffers, VersionUnknown, SixthByteSet, CountOutside, LengthWrong, IdNotAscending, ChannelOutside, ClassOver, FlagsOver, LatitudeOutside, LongitudeOutside, AskedChannel, AskedClass, AskedZone, NotPermitted, AskedSite, IdZero, IdPresent, Short, TableFull, DoesNotFit, IdAbsent, TooFar, NotMovable}
+use Rattle.refusals.specs.Faults.{Fault, refusal, UnderEightBytes, MarkDiffers, VersionUnknown, SixthByteSet, CountOutside, LengthWrong, IdNotAscending, ChannelOutside, ClassOver, FlagsOver, LatitudeOutside, LongitudeOutside, AskedChannel, AskedClass, AskedZone, NotPermitted, AskedSite, IdZero, IdPresent, Short, TableFull, DoesNotFit, IdAbsent, TooFar, NotMovable, StandardUnknown}
 use Rattle.versions.specs.Version.{top}
 use Rattle.stations.specs.Image.{stations, numbers, headed, verdict, scan, scanned, stages, then, tableOf, judged, version, count}
 use Rattle.stations.specs.Lists.{withId}
@@ -18,11 +18,11 @@ use Rattle.stations.specs.declared.Judged.the-variants.{Table, Refused as Refus
 use Rattle.stations.specs.declared.Verdict.{Verdict}
 use Rattle.stations.specs.declared.Verdict.the-variants.{Sound, Faulty}
 use Rattle.desk.specs.Answers.{Outcome, grant, deny, onTable, onAsked, answer}
-use Rattle.desk.specs.Asked.{placeFault, askedFault}
+use Rattle.desk.specs.Asked.{classFault, kindFault, siteFault, askedFault}
 use Rattle.desk.specs.Questions.{countOf, readOf, distanceOf}
 use Rattle.desk.specs.declared.Answer.{Answer}
 use Rattle.desk.specs.declared.Answer.the-variants.{Granted, Refused}
-use Rattle.studies.specs.Studies.{asideFault, studyFault, study}
+use Rattle.studies.specs.Studies.{standardFault, wantedFault, asideFault, studyFault, study}
 use Rattle.studies.specs.declared.Wanted.{Wanted}
 use Rattle.changes.specs.Changes.{Change, add, withdraw, move, Decision, allow, refuse, onVerdict, decide, written, changedFor}
 use Rattle.checks.specs.Check.{checkedFor}
@@ -73,14 +73,29 @@ found-scanned : (s : List ℕ) → Found (scanned s)
 unfolding scanned
 found-scanned s = found-scan (top (version s)) 0 0 (stations s)
 
-found-asked : (first last class zone : ℕ) (latitude longitude : ℤ) → Found (askedFault first last class zone latitude longitude)
-unfolding askedFault placeFault
-found-asked first last class zone latitude longitude =
+found-kind : (first last class zone : ℕ) → Found (kindFault first last class zone)
+unfolding kindFault classFault
+found-kind first last class zone =
     either Found _ _ _ (λ _. fault AskedChannel)
     (λ _. either Found _ _ _ (λ _. fault AskedClass)
     (λ _. either Found _ _ _ (λ _. fault AskedZone)
-    (λ _. either Found _ _ _ (λ _. fault NotPermitted)
-    (λ _. either Found _ _ _ (λ _. fault AskedSite) (λ _. sound)))))
+    (λ _. either Found _ _ _ (λ _. fault NotPermitted) (λ _. sound))))
+
+found-site : (latitude longitude : ℤ) → Found (siteFault latitude longitude)
+unfolding siteFault
+found-site latitude longitude = either Found _ _ _ (λ _. fault AskedSite) (λ _. sound)
+
+found-asked : (first last class zone : ℕ) (latitude longitude : ℤ) → Found (askedFault first last class zone latitude longitude)
+unfolding askedFault
+found-asked first last class zone latitude longitude = found-then (found-kind first last class zone) (found-site latitude longitude)
+
+found-standard : (standard : ℕ) → Found (standardFault standard)
+unfolding standardFault
+found-standard standard = either Found _ _ _ (λ _. fault StandardUnknown) (λ _. sound)
+
+found-wanted : (w : Wanted) → Found (wantedFault w)
+unfolding wantedFault
+found-wanted w = found-then (found-kind (w .first) (w .last) (w .class) (w .zone)) (found-then (found-standard (w .standard)) (found-site (w .latitude) (w .longitude)))
 
 found-aside : (id : ℕ) (ss : List Station) → Found (asideFault id ss)
 unfolding asideFault
@@ -88,7 +103,7 @@ found-aside id ss = either Found _ _ _ (λ _. fault IdAbsent) (λ _. sound)
 
 found-study : (ss : List Station) (w : Wanted) → Found (studyFault ss w)
 unfolding studyFault
-found-study ss w = found-then (found-asked (w .first) (w .last) (w .class) (w .zone) (w .latitude) (w .longitude)) (found-aside (w .aside) ss)
+found-study ss w = found-then (found-wanted w) (found-aside (w .aside) ss)
 
 -- ---- a judgement
 
@@ -160,7 +175,7 @@ pub numbered-change : (s : List ℕ) (c : Change) (room : ℕ) → Numbered (ans
 unfolding changedFor
 numbered-change s c room = answered room (on-table (told-judged s) (on-decision (decided (stations s) c)))
 
-comes-study : (s : List ℕ) (w : Wanted) (numbered : List Station → List ℕ) → Comes (study s w numbered)
+comes-study : (s : List ℕ) (w : Wanted) (numbered : (ℕ → ℕ → ℕ → ℕ) → List Station → List ℕ) → Comes (study s w numbered)
 unfolding study
 comes-study s w numbered = on-table (told-judged s) (on-asked (found-study (stations s) w) (given-out _))
 
@@ -224,6 +239,7 @@ above-0 (DoesNotFit n) = omega arith
 above-0 IdAbsent = omega arith
 above-0 TooFar = omega arith
 above-0 (NotMovable i) = omega arith
+above-0 StandardUnknown = omega arith
 
 pub granted-exactly : {a : Answer} {r : ℕ} → Numbered a → Says a r → (r / 4294967296 ≡ 0) ↔ ((n : ℕ) × (a ≡ Granted n))
 granted-exactly (granted n) h = (λ _. (n, refl), λ _. h .number)

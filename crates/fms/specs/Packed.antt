@@ -41,10 +41,10 @@ abbrev pub newcomer : ℕ → ℕ → ℕ → ℕ → ℤ → ℤ → Newcomer
 newcomer id channel class zone latitude longitude =
     record { id = id; channel = channel; class = class; zone = zone; latitude = latitude; longitude = longitude }
 
-abbrev pub proposal : ℕ → ℕ → ℕ → ℤ → ℤ → ℕ → Proposal
-proposal channel class zone latitude longitude aside =
-    record { channel = channel; class = class; zone = zone; latitude = latitude; longitude = longitude; aside = aside }
+abbrev pub proposal : ℕ → ℕ → ℕ → ℤ → ℤ → ℕ → ℕ → Proposal
+proposal channel class zone latitude longitude aside standard =
+    record { channel = channel; class = class; zone = zone; latitude = latitude; longitude = longitude; aside = aside; standard = standard }
 
-abbrev pub wanted : ℕ → ℕ → ℕ → ℕ → ℤ → ℤ → ℕ → Wanted
-wanted first last class zone latitude longitude aside =
-    record { first = first; last = last; class = class; zone = zone; latitude = latitude; longitude = longitude; aside = aside }
+abbrev pub wanted : ℕ → ℕ → ℕ → ℕ → ℤ → ℤ → ℕ → ℕ → Wanted
+wanted first last class zone latitude longitude aside standard =
+    record { first = first; last = last; class = class; zone = zone; latitude = latitude; longitude = longitude; aside = aside; standard = standard }

@@ -108,9 +108,10 @@ pub extern "C" fn fms_check(
     lat: i32,
     lon: i32,
     aside: u32,
+    standard: u32,
     rows: &mut [u32],
 ) -> u64
-    ensures { λ r. ⌜ Packed (checkedFor (now (table .entry)) (proposal channel class zone lat lon aside)) (now (rows .entry)) (now (rows .exit)) r ⌝ }
+    ensures { λ r. ⌜ Packed (checkedFor (now (table .entry)) (proposal channel class zone lat lon aside standard)) (now (rows .entry)) (now (rows .exit)) r ⌝ }
 {
     let asked = Proposal {
         channel,
@@ -119,6 +120,7 @@ pub extern "C" fn fms_check(
         latitude: lat,
         longitude: lon,
         aside,
+        standard,
     };
     let a = checks::check(table, asked, rows);
     pack(a)
@@ -134,9 +136,10 @@ pub extern "C" fn fms_arrange(
     lat: i32,
     lon: i32,
     aside: u32,
+    standard: u32,
     rows: &mut [u32],
 ) -> u64
-    ensures { λ r. ⌜ Packed (arrangedFor (now (table .entry)) (wanted first last class zone lat lon aside)) (now (rows .entry)) (now (rows .exit)) r ⌝ }
+    ensures { λ r. ⌜ Packed (arrangedFor (now (table .entry)) (wanted first last class zone lat lon aside standard)) (now (rows .entry)) (now (rows .exit)) r ⌝ }
 {
     let asked = Wanted {
         first,
@@ -146,6 +149,7 @@ pub extern "C" fn fms_arrange(
         latitude: lat,
         longitude: lon,
         aside,
+        standard,
     };
     let a = arrangements::arrange(table, asked, rows);
     pack(a)
@@ -188,9 +192,10 @@ pub extern "C" fn fms_reason(
     lat: i32,
     lon: i32,
     aside: u32,
+    standard: u32,
     reason: &mut [u32; 4],
 ) -> u64
-    ensures { λ r. ⌜ Explained (now (table .entry)) (reasonedFor (now (table .entry)) (proposal channel class zone lat lon aside)) (now (reason .entry)) (now (reason .exit)) r ⌝ }
+    ensures { λ r. ⌜ Explained (now (table .entry)) (reasonedFor (now (table .entry)) (proposal channel class zone lat lon aside standard)) (now (reason .entry)) (now (reason .exit)) r ⌝ }
 {
     let proposed = Proposal {
         channel,
@@ -199,6 +204,7 @@ pub extern "C" fn fms_reason(
         latitude: lat,
         longitude: lon,
         aside,
+        standard,
     };
     let why = reasons::answer(table, proposed);
     put_why(why, reason);

@@ -1,11 +1,10 @@
 // A frame around a site, as a walk over records goes by it: the box outside of which nobody is short, in the bits of the
 // coordinates, also where it lies over the 180th meridian.
 ghost use mathlib.Core.Path.{_≡_};
-ghost use Prim.Native.Nat.{_≤_};
+ghost use Prim.Native.Nat.{ℕ, _≤_};
 ghost use lib.IntN.{natAbs};
 ghost use Rattle.distance.specs.Distance.{lonGap};
-ghost use Rattle.part73.specs.TableA.{tableA};
-ghost use Rattle.spacing.specs.Limits.{LimitsAt};
+ghost use Rattle.spacing.specs.Limits.{Limited, ByTable};
 ghost use Rattle.spacing.specs.Reaching.{Seconds, InRange};
 ghost use Rattle.framing.specs.Frames.{past, Centred, Holds, Encloses};
 use spacing::Limits;
@@ -70,8 +69,8 @@ fn longitudes_near(lon: i32, far: u32) -> Span
 
 // The frame around a class at a site, made once for a walk.
 pub fn frame_around(p: Place, limits: &Limits) -> Frame
-    requires { ⌜ (LimitsAt tableA p (now limits)) × (InRange p) ⌝ }
-    ensures { λ f. ⌜ Encloses tableA p f ⌝ }
+    requires { ⌜ (ByTable p (now limits)) × (InRange p) ⌝ }
+    ensures { λ f. ⌜ ((km : ℕ → ℕ → ℕ → ℕ) → Limited km p (now (limits .entry)) → Encloses km p f) ⌝ }
 {
     let around = spacing::box_around(p, limits);
     Frame {

@@ -1,7 +1,7 @@
--- A list of a function's first n values: its length, the one at an index, and what is left of it from an index on.
--- Assumes nothing.
+-- A list of a function's first n values: its length, the one at an index, and what is left of it from an index on; and the one at an
+-- index of a list that is mapped. Assumes nothing.
 use mathlib.Core.Path.{_≡_, refl, ap}
-use mathlib.Core.List.{_∷_}
+use mathlib.Core.List.{List, [], _∷_, map}
 use Prim.Native.Nat.{ℕ, zero, suc, _<_}
 use native.Mathlib.Nat.{le-of-suc-le-suc, not-suc-le-zero}
 use lib.ListN.{length, getD, drop}
@@ -24,3 +24,8 @@ module _ {A : Type 0} where
   drop-build zero f i h = absurd (not-suc-le-zero h)
   drop-build (suc n) f zero h = refl
   drop-build (suc n) f (suc i) h = drop-build n (λ i. f (suc i)) i (le-of-suc-le-suc h)
+
+pub getD-map : {A B : Type 0} (f : A → B) (l : List A) (i : ℕ) (d : A) (e : B) → i < length l → getD (map f l) i e ≡ f (getD l i d)
+getD-map f [] i d e h = absurd (not-suc-le-zero h)
+getD-map f (x ∷ l) zero d e h = refl
+getD-map f (x ∷ l) (suc i) d e h = getD-map f l i d e (le-of-suc-le-suc h)

@@ -1,4 +1,4 @@
--- 01, The programs; 02, R-2: the lines that a program prints, as bytes. Assumes nothing.
+-- 01, The programs; 02, R-2, R-6: the lines that a program prints, as bytes. Assumes nothing.
 use mathlib.Core.Bool.{cond}
 use mathlib.Core.List.{List, [], _∷_, _++_}
 use Prim.Native.Nat.{ℕ, zero, suc, _+_, _*_, _/_, _%_}
@@ -30,7 +30,7 @@ ended n = numberThen n 10
 unfoldable pub rowLine : ℕ → ℕ → ℕ → List ℕ
 rowLine a b c = spaced a ++ (spaced b ++ ended c)
 
--- `id D R column`: numbers, on one line
+-- `id D R column standard`: numbers, on one line
 unfoldable pub numbersLine : List ℕ → List ℕ
 numbersLine [] = []
 numbersLine (a ∷ []) = ended a

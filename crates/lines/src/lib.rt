@@ -7,10 +7,10 @@ ghost use Rattle.ground.specs.Writing.{Wrote};
 ghost use Rattle.lines.specs.Lines.{numberThen, ended, rowLine, numbersLine, clearLine, shortLine, refusedLine, lineAt};
 use refusals::Refusal;
 
-// The longest line of three numbers of ten digits, and the byte after each; and that of four.
+// The longest line of three numbers of ten digits, and the byte after each; and that of five.
 pub const LINE: usize = 33;
 
-pub const REASON_LINE: usize = 44;
+pub const REASON_LINE: usize = 55;
 
 // A word; answers the place after it.
 fn put_word(text: &mut [u8], at: usize, word: &[u8]) -> usize
@@ -55,14 +55,15 @@ fn put_numbers(text: &mut [u8], at: usize, a: u32, b: u32, c: u32) -> usize
     put_number(text, third, c, b'\n')
 }
 
-// A line of four numbers.
-pub fn put_reason(text: &mut [u8], at: usize, a: u32, b: u32, c: u32, d: u32) -> usize
-    requires { ⌜ at + 44 ≤ length (now text) ⌝ }
-    ensures { λ r. ⌜ Wrote (numbersLine (a ∷ b ∷ c ∷ d ∷ [])) (now (text .entry)) at (now (text .exit)) r ⌝ }
-    ensures { λ r. ⌜ r ≤ at + 44 ⌝ }
+// A line of five numbers.
+pub fn put_reason(text: &mut [u8], at: usize, a: u32, b: u32, c: u32, d: u32, e: u32) -> usize
+    requires { ⌜ at + 55 ≤ length (now text) ⌝ }
+    ensures { λ r. ⌜ Wrote (numbersLine (a ∷ b ∷ c ∷ d ∷ e ∷ [])) (now (text .entry)) at (now (text .exit)) r ⌝ }
+    ensures { λ r. ⌜ r ≤ at + 55 ⌝ }
 {
-    let rest = put_number(text, at, a, b' ');
-    put_numbers(text, rest, b, c, d)
+    let second = put_number(text, at, a, b' ');
+    let rest = put_number(text, second, b, b' ');
+    put_numbers(text, rest, c, d, e)
 }
 
 // The line `clear`.

@@ -10,14 +10,13 @@ use lib.Seq.{getD-take}
 use Rattle.ground.specs.Lists.{_∈_, span, keep}
 use Rattle.ground.proofs.Order.{in-keep, in-span}
 use Rattle.ground.proofs.Keeps.{map-map}
-use Rattle.part73.specs.TableA.{tableA}
 use Rattle.spacing.specs.Pair.{Assignment}
 use Rattle.spacing.specs.Reaching.{InRange}
 use Rattle.spacing.specs.declared.Place.{Place}
 use Rattle.versions.specs.Version.{limit}
 use Rattle.stations.specs.Image.{stationAt, stations, count, Accepted}
 use Rattle.stations.specs.declared.Station.{Station}
-use Rattle.survey.specs.Ways.{near, looked, studied}
+use Rattle.survey.specs.Ways.{near, looked, studied, chosenFor}
 use Rattle.survey.specs.Walking.{blocks}
 use Rattle.survey.specs.declared.Terms.{Terms}
 use Rattle.survey.proofs.Studied.{keep-at}
@@ -39,12 +38,12 @@ module _ {vs hits : List ℕ} {k : ℕ} (w : Noted vs hits k) where
   noted-few = omega (arith, w .long, w .many, ap length (w .holds), length-take k hits)
 
 -- where those that are studied are noted
-module _ (s : List ℕ) (e : Accepted s) (t : Terms) (p : Assignment) {hits : List ℕ} {k : ℕ} (w : Noted (shortPositions tableA (looked t) s p) hits k) where
+module _ (s : List ℕ) (e : Accepted s) (t : Terms) (p : Assignment) {hits : List ℕ} {k : ℕ} (w : Noted (shortPositions (chosenFor t) (looked t) s p) hits k) where
   -- each is one of the table
   position : (i : ℕ) → i < k → getD hits i 0 < count s
   unfolding shortPositions
   position i h =
-      let m = in-keep _ (span 0 (count s)) .0 (at-in (shortPositions tableA (looked t) s p) i (omega (arith, w .many))) .0 in
+      let m = in-keep _ (span 0 (count s)) .0 (at-in (shortPositions (chosenFor t) (looked t) s p) i (omega (arith, w .many))) .0 in
       let q = sym (getD-take k hits i 0 h) ∙ ap (λ (l : List ℕ). getD l i 0) (w .holds) in
       omega (arith, q, in-span _ (count s) 0 .0 m .1)
 
@@ -52,6 +51,6 @@ module _ (s : List ℕ) (e : Accepted s) (t : Terms) (p : Assignment) {hits : Li
   noted-at place h = record { accepted = e; placed = h; long = w .long; few = noted-few w; each-one = position }
 
   -- what is said of them is said of the short stations, of those that are studied
-  pub said-noted : {A : Type 0} (g : Station → A) → map (λ j. g (stationAt s j)) (take k hits) ≡ map g (keep (near tableA p) (studied t (stations s)))
+  pub said-noted : {A : Type 0} (g : Station → A) → map (λ j. g (stationAt s j)) (take k hits) ≡ map g (keep (near (chosenFor t) p) (studied t (stations s)))
   unfolding studied
-  said-noted g = rw (w .holds) (sym (said-at g tableA (looked t) s p e))
+  said-noted g = rw (w .holds) (sym (said-at g (chosenFor t) (looked t) s p e))

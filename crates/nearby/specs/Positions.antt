@@ -9,7 +9,6 @@ use Rattle.ground.specs.Lists.{span, keep}
 use Rattle.ground.specs.Passing.{Passing}
 use Rattle.part73.specs.Channels.{lowest, highest}
 use Rattle.part73.specs.Columns.{gap, none}
-use Rattle.part73.specs.TableA.{tableA}
 use Rattle.spacing.specs.Pair.{Assignment, columnFor}
 use Rattle.spacing.specs.Reaching.{InRange}
 use Rattle.spacing.specs.declared.Place.{Place}
@@ -17,6 +16,7 @@ use Rattle.versions.specs.Version.{limit}
 use Rattle.stations.specs.Image.{stationAt, count, Accepted}
 use Rattle.stations.specs.declared.Station.{Station}
 use Rattle.survey.specs.Walking.{blocks, Walk}
+use Rattle.survey.specs.declared.Terms.{Terms}
 
 -- of the records those that are looked at and short, in table order
 unfoldable pub shortPositions : (ℕ → ℕ → ℕ → ℕ) → (Station → Bool) → List ℕ → Assignment → List ℕ
@@ -49,15 +49,15 @@ abbrev pub Unheld : List ℕ → List Bool → ℕ → ℕ → Type 0
 Unheld s free from to = Passing (λ j. getD free (stationAt s j .channel % 256) false ≡ true) (count s) from to
 
 -- what the search from a position on asks
-pub record Search (s : List ℕ) (from channel : ℕ) (p : Place) (limits : List ℕ) (free : List Bool) : Type 0 where
-  pub walk : Walk s p limits
+pub record Search (s : List ℕ) (from : ℕ) (t : Terms) (channel : ℕ) (p : Place) (limits : List ℕ) (free : List Bool) : Type 0 where
+  pub walk : Walk s t p limits
   pub within : from ≤ count s
   pub free-of : Free channel free
 
 -- r is the first position from one on whose record is looked at and p is short to; the count where there is none
-pub record NextShort (look : Station → Bool) (s : List ℕ) (p : Assignment) (from r : ℕ) : Type 0 where
-  pub passed : Passing (λ j. blocks tableA look s p j ≡ false) (count s) from r
-  pub short : r < count s → blocks tableA look s p r ≡ true
+pub record NextShort (km : ℕ → ℕ → ℕ → ℕ) (look : Station → Bool) (s : List ℕ) (p : Assignment) (from r : ℕ) : Type 0 where
+  pub passed : Passing (λ j. blocks km look s p j ≡ false) (count s) from r
+  pub short : r < count s → blocks km look s p r ≡ true
 
 -- what noting them asks
 pub record Notes (s : List ℕ) (channel : ℕ) (p : Place) (hits : List ℕ) : Type 0 where

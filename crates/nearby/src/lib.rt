@@ -1,8 +1,7 @@
 // The records that a station on a channel, of a class at a site, is short to, of those that are looked at: one after the other,
 // and their positions.
-ghost use Rattle.part73.specs.TableA.{tableA};
 ghost use Rattle.spacing.specs.Pair.{sited};
-ghost use Rattle.survey.specs.Ways.{looked};
+ghost use Rattle.survey.specs.Ways.{looked, chosenFor};
 ghost use Rattle.nearby.specs.Positions.{shortPositions, Search, NextShort, Notes, Noted};
 
 mod nearness;
@@ -26,8 +25,8 @@ pub fn next_short(
     limits: &Limits,
     free: &[bool; 256],
 ) -> usize
-    requires { ⌜ Search (now table) from channel place (now limits) (now free) ⌝ }
-    ensures { λ r. ⌜ NextShort (looked terms) (now (table .entry)) (sited place channel) from r ⌝ }
+    requires { ⌜ Search (now table) from terms channel place (now limits) (now free) ⌝ }
+    ensures { λ r. ⌜ NextShort (chosenFor terms) (looked terms) (now (table .entry)) (sited place channel) from r ⌝ }
 {
     let n = stations::count_of(table);
     let mut i = next_held(table, from, free);
@@ -49,10 +48,10 @@ pub fn note_short(
     hits: &mut [u16; versions::LIMIT],
 ) -> usize
     requires { ⌜ Notes (now table) channel place (now hits) ⌝ }
-    ensures { λ k. ⌜ Noted (shortPositions tableA (looked terms) (now (table .entry)) (sited place channel)) (now (hits .exit)) k ⌝ }
+    ensures { λ k. ⌜ Noted (shortPositions (chosenFor terms) (looked terms) (now (table .entry)) (sited place channel)) (now (hits .exit)) k ⌝ }
 {
     let n = stations::count_of(table);
-    let limits = spacing::limits_of(place);
+    let limits = spacing::limits_of(terms.standard, place);
     let free = free_of(channel);
     let mut k: usize = 0;
     let mut i = next_short(table, 0, terms, channel, place, &limits, &free);

@@ -2,12 +2,14 @@
 // more in the way.
 ghost use mathlib.Core.Path.{_≡_};
 ghost use Rattle.distance.specs.Distance.{S, D};
-ghost use Rattle.part73.specs.TableA.{tableA};
+ghost use Prim.Native.Nat.{ℕ};
+ghost use Rattle.part73.specs.Reading.{Tabled};
 ghost use Rattle.spacing.specs.Pair.{sited};
 ghost use Rattle.spacing.specs.Reaching.{InRange};
 ghost use Rattle.stations.specs.Image.{stationAt};
 ghost use Rattle.neighbours.specs.Neighbours.{neighbourOf, shortfallOf};
 ghost use Rattle.neighbours.specs.Inside.{Beside, worseOf};
+use part73::Rows;
 use spacing::Place;
 
 // D and R are in km; the column is 0 to 3, or 4 where none applies.
@@ -36,17 +38,23 @@ fn km_between(p: Place, q: Place) -> u32
     d as u32
 }
 
-// The record at position i, beside a station at a place, on a channel.
-pub fn neighbour_at(table: &[u8], i: usize, channel: usize, place: Place) -> Neighbour
+// The record at position i, beside a station at a place, on a channel, by the rows of a table of separations.
+pub fn neighbour_at(
+    table: &[u8],
+    i: usize,
+    separations: &Rows,
+    channel: usize,
+    place: Place,
+) -> Neighbour
     requires { ⌜ Beside (now table) place i ⌝ }
-    ensures { λ r. ⌜ r ≡ neighbourOf tableA (sited place channel) (stationAt (now (table .entry)) i) ⌝ }
+    ensures { λ r. ⌜ ((km : ℕ → ℕ → ℕ → ℕ) → Tabled km (now (separations .entry)) → r ≡ neighbourOf km (sited place channel) (stationAt (now (table .entry)) i)) ⌝ }
 {
     let r = stations::station_at(table, i);
     let id = r.id;
     let c = r.channel as usize;
     let theirs = survey::place_of(r);
     let distance = km_between(place, theirs);
-    let km = spacing::separation_of(channel, place.class, c, theirs.class);
+    let km = spacing::separation_of(separations, channel, place.class, c, theirs.class);
     let separation = km as u32;
     let applies = spacing::column_for(channel, c);
     let column = applies as u32;

@@ -1,5 +1,5 @@
--- Table A is a table of separations, by tests that antt computes over the whole table; and what each column means.
--- Assumes nothing.
+-- Which tables are tables of separations: those that pass tests which antt computes over the whole table. Table A does, and the
+-- lesser table. And what each column means. Assumes nothing.
 use mathlib.Core.Path.{_≡_}
 use Prim.Native.Nat.{ℕ, zero, suc, _≤_, _<_}
 use native.Mathlib.Omega.{arith}
@@ -9,39 +9,42 @@ use Rattle.ground.specs.Guard.{given}
 use Rattle.ground.proofs.Ranges.{all3, at3}
 use Rattle.part73.specs.Columns.{column, none}
 use Rattle.part73.specs.TableA.{tableA, relation, relations}
+use Rattle.part73.specs.Lesser.{lesserRelations, lesser}
 use Rattle.part73.specs.Separations.{Separations}
-use Rattle.part73.proofs.Symmetry.{tableA-swap}
+use Rattle.part73.proofs.Symmetry.{tableA-swap, lesser-swap}
 
-all-above : T (all3 8 8 4 (λ a b c. ltb 0 (tableA a b c)))
-unfolding tableA relation relations
-all-above = tt
+-- the tests
+record Tested (km : ℕ → ℕ → ℕ → ℕ) : Type 0 where
+  above : T (all3 8 8 4 (λ a b c. ltb 0 (km a b c)))
+  end : T (all3 8 8 1 (λ a b c. eqb (km a b none) 0))
+  falls : T (all3 8 8 3 (λ a b c. ltb (km a b (suc c)) (km a b c)))
+  widest : T (all3 8 8 1 (λ a b c. leb (km a b 0) (km a 7 0)))
+  most : T (all3 8 8 4 (λ a b c. leb (km a b c) 290))
 
-all-end : T (all3 8 8 1 (λ a b c. eqb (tableA a b none) 0))
-unfolding tableA relation relations
-all-end = tt
+separations : {km : ℕ → ℕ → ℕ → ℕ} → ((a b c : ℕ) → km a b c ≡ km b a c) → Tested km → Separations km
+separations {km} either t =
+    record {
+      either = either;
+      above = λ a b c ha hb hc. ltb→lt _ _ (at3 8 8 4 (λ a b c. ltb 0 (km a b c)) (t .above) a b c ha hb hc);
+      ends = λ a b ha hb. eqb→eq _ _ (at3 8 8 1 (λ a b c. eqb (km a b none) 0) (t .end) a b 0 ha hb (lit< tt));
+      falls = λ a b c ha hb hc. ltb→lt _ _ (at3 8 8 3 (λ a b c. ltb (km a b (suc c)) (km a b c)) (t .falls) a b c ha hb hc);
+      widest = λ a b ha hb. leb→le _ _ (at3 8 8 1 (λ a b c. leb (km a b 0) (km a 7 0)) (t .widest) a b 0 ha hb (lit< tt));
+      most = λ a b c ha hb hc. leb→le _ _ (at3 8 8 4 (λ a b c. leb (km a b c) 290) (t .most) a b c ha hb hc);
+    }
 
-all-falls : T (all3 8 8 3 (λ a b c. ltb (tableA a b (suc c)) (tableA a b c)))
+tested-a : Tested tableA
 unfolding tableA relation relations
-all-falls = tt
+tested-a = record { above = tt; end = tt; falls = tt; widest = tt; most = tt }
 
-all-most : T (all3 8 8 4 (λ a b c. leb (tableA a b c) 290))
-unfolding tableA relation relations
-all-most = tt
-
-all-widest : T (all3 8 8 1 (λ a b c. leb (tableA a b 0) (tableA a 7 0)))
-unfolding tableA relation relations
-all-widest = tt
+tested-lesser : Tested lesser
+unfolding lesser lesserRelations tableA relation relations
+tested-lesser = record { above = tt; end = tt; falls = tt; widest = tt; most = tt }
 
 pub table-a : Separations tableA
-table-a =
-    record {
-      either = tableA-swap;
-      above = λ a b c ha hb hc. ltb→lt _ _ (at3 8 8 4 (λ a b c. ltb 0 (tableA a b c)) all-above a b c ha hb hc);
-      ends = λ a b ha hb. eqb→eq _ _ (at3 8 8 1 (λ a b c. eqb (tableA a b none) 0) all-end a b 0 ha hb (lit< tt));
-      falls = λ a b c ha hb hc. ltb→lt _ _ (at3 8 8 3 (λ a b c. ltb (tableA a b (suc c)) (tableA a b c)) all-falls a b c ha hb hc);
-      widest = λ a b ha hb. leb→le _ _ (at3 8 8 1 (λ a b c. leb (tableA a b 0) (tableA a 7 0)) all-widest a b 0 ha hb (lit< tt));
-      most = λ a b c ha hb hc. leb→le _ _ (at3 8 8 4 (λ a b c. leb (tableA a b c) 290) all-most a b c ha hb hc);
-    }
+table-a = separations tableA-swap tested-a
+
+pub lesser-table : Separations lesser
+lesser-table = separations lesser-swap tested-lesser
 
 -- ---- the columns
 

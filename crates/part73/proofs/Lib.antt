@@ -1,4 +1,5 @@
 pub mod Symmetry
 pub mod Rule
 pub mod Facts
+pub mod Chosen
 pub mod Zones

@@ -1,10 +1,11 @@
-// What 47 CFR Part 73 decides: the classes that a zone permits, the column of a channel difference, and Table A.
+// What 47 CFR Part 73 decides: the classes that a zone permits, the column of a channel difference, the rows of Table A, and
+// which row is that of two classes.
 ghost use mathlib.Core.Path.{_≡_};
 ghost use Prim.Native.Nat.{_≤_, _<_};
 ghost use Rattle.part73.specs.Classes.{isClass, isZone, permits};
 ghost use Rattle.part73.specs.Columns.{gap, column};
 ghost use Rattle.part73.specs.TableA.{tableA};
-ghost use Rattle.part73.specs.Reading.{rows, RowOf, CoChannel};
+ghost use Rattle.part73.specs.Reading.{rowsOf, RowOf};
 
 // The channels that a new or a moved station may have.
 pub const LOWEST: usize = 221;
@@ -19,7 +20,10 @@ pub const HIGHEST_ASKED: u32 = HIGHEST as u32;
 // How many they are.
 pub const CHANNEL_COUNT: usize = 80;
 
-// One row for each pair of classes, in the order of the document; in a row, the four columns.
+// The separations of a table in km: one row for each pair of classes, in the order of the document; in a row, the four columns.
+pub type Rows = [[u16; 4]; 36];
+
+// Table A.
 const TABLE_A: [[u16; 4]; 36] = [
     [115, 72, 31, 10],
     [143, 96, 48, 12],
@@ -60,8 +64,8 @@ const TABLE_A: [[u16; 4]; 36] = [
 ];
 
 // The rows of the document, for all that read the table.
-fn table_rows() -> [[u16; 4]; 36]
-    ensures { λ r. ⌜ r ≡ rows ⌝ }
+pub fn table_rows() -> Rows
+    ensures { λ r. ⌜ r ≡ rowsOf tableA ⌝ }
 {
     TABLE_A
 }
@@ -75,38 +79,11 @@ fn ordered(lo: usize, hi: usize) -> usize
 }
 
 // The row of two classes, in any order.
-fn row_of(a: usize, b: usize) -> usize
+pub fn row_of(a: usize, b: usize) -> usize
     requires { ⌜ (a < 8) × (b < 8) ⌝ }
     ensures { λ r. ⌜ RowOf a b r ⌝ }
 {
     if a <= b { ordered(a, b) } else { ordered(b, a) }
-}
-
-// The separation of two classes, in any order, at a column.
-pub fn separation(a: usize, b: usize, column: usize) -> u16
-    requires { ⌜ (a < 8) × (b < 8) × (column < 4) ⌝ }
-    ensures { λ r. ⌜ r ≡ tableA a b column ⌝ }
-{
-    let row = row_of(a, b);
-    let table = table_rows();
-    table[row][column]
-}
-
-// The co-channel separations of a class against each of the eight. A constant is made anew wherever it is named, so a pass reads
-// this once and not the table at each pair.
-pub fn co_channel_of(class: usize) -> [u16; 8]
-    requires { ⌜ class < 8 ⌝ }
-    ensures { λ r. ⌜ CoChannel tableA class r ⌝ }
-{
-    let table = table_rows();
-    let mut out = [0u16; 8];
-    let mut b: usize = 0;
-    while b < 8 {
-        let row = row_of(class, b);
-        out[b] = table[row][0];
-        b += 1;
-    }
-    out
 }
 
 pub fn is_class(class: u32) -> bool

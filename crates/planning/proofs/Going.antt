@@ -10,11 +10,10 @@ use lib.Dec.{eqb}
 use borrow.Author.Tests.{eqb-false, ne-eqb, not-true}
 use Rattle.ground.proofs.Guards.{and-was}
 use Rattle.part73.specs.Channels.{lowest, highest}
-use Rattle.part73.specs.TableA.{tableA}
 use Rattle.spacing.specs.declared.Place.{Place}
 use Rattle.stations.specs.Image.{count, Accepted}
 use Rattle.stations.specs.Lists.{movable}
-use Rattle.survey.specs.Ways.{looked}
+use Rattle.survey.specs.Ways.{looked, chosenFor}
 use Rattle.survey.specs.Walking.{blocks}
 use Rattle.marking.specs.Marks.{many, seen, markOf}
 use Rattle.survey.specs.declared.Terms.{Terms}
@@ -76,7 +75,7 @@ module _ (s : List ℕ) (t : Terms) (p : Place) (c : ℕ) {v : ℕ} (e : v ≡ s
   unfolding scene blocks
   lone-looked l = and-was (looked t (stationOf s v)) _ (lone-hit _ (count s) v l tallied) .0
 
-  pub right-kept : {kept : List ℕ} {b : Blocker} {row : List Bool} → Accepted s → lowest ≤ c → mayMove s v ≡ true → Kept tableA (looked t) s v kept → Meets tableA s p v b → Rowed (goesFrom b c kept) row → Right (sceneOf s t p) c v row
+  pub right-kept : {kept : List ℕ} {b : Blocker} {row : List Bool} → Accepted s → lowest ≤ c → mayMove s v ≡ true → Kept (chosenFor t) (looked t) s v kept → Meets (chosenFor t) s p v b → Rowed (goesFrom b c kept) row → Right (sceneOf s t p) c v row
   unfolding scene
   right-kept {kept} a low y k w r l =
       let m = moves-yes s v marks-one y in

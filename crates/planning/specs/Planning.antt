@@ -3,12 +3,11 @@ use mathlib.Core.Path.{_≡_}
 use Prim.Native.Nat.{ℕ, _≤_, _<_}
 use mathlib.Core.Bool.{Bool}
 use mathlib.Core.List.{List}
-use Rattle.part73.specs.TableA.{tableA}
 use Rattle.squares.specs.Squares.{squaredLimits}
 use Rattle.spacing.specs.Reaching.{InRange}
 use Rattle.spacing.specs.declared.Place.{Place}
 use Rattle.stations.specs.Image.{count, Accepted}
-use Rattle.survey.specs.Ways.{looked}
+use Rattle.survey.specs.Ways.{looked, chosenFor}
 use Rattle.marking.specs.Marks.{Asked, Marked}
 use Rattle.marking.specs.declared.Channels.{Channels}
 use Rattle.survey.specs.declared.Terms.{Terms}
@@ -28,14 +27,14 @@ pub record Single (n mark : ℕ) : Type 0 where
 
 -- what is known of the station that v marks, with the marks from its site
 pub record Known (s : List ℕ) (t : Terms) (p : Place) (v : ℕ) (b : Blocker) (marks : List ℕ) : Type 0 where
-  pub met : Meets tableA s p v b
-  pub held : Kept tableA (looked t) s v marks
+  pub met : Meets (chosenFor t) s p v b
+  pub held : Kept (chosenFor t) (looked t) s v marks
 
 -- the same of one station, where that of another is kept
 pub record Meeting (s : List ℕ) (t : Terms) (p : Place) (squares : List (List (List ℕ))) (mark : ℕ) (kept : Blocker) (marks : List ℕ) : Type 0 where
   pub accepted : Accepted s
   pub placed : InRange p
-  pub squared : squares ≡ squaredLimits tableA
+  pub squared : squares ≡ squaredLimits (chosenFor t)
   pub single : Single (count s) mark
   pub known : Known s t p (kept .mark) kept marks
 
@@ -43,7 +42,7 @@ pub record Meeting (s : List ℕ) (t : Terms) (p : Place) (squares : List (List 
 pub record Planning (s : List ℕ) (t : Terms) (p : Place) (squares : List (List (List ℕ))) (channels : Channels) (marks : List ℕ) (moves : List Bool) : Type 0 where
   pub accepted : Accepted s
   pub placed : InRange p
-  pub squared : squares ≡ squaredLimits tableA
+  pub squared : squares ≡ squaredLimits (chosenFor t)
   pub asked : Asked channels
   pub marked : Marked (sceneOf s t p .new) (channels .first) (channels .last) (count s) marks
   pub down : Down (channels .first) (channels .first) moves

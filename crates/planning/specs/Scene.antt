@@ -4,13 +4,12 @@ use mathlib.Core.Bool.{Bool, not, _&&_, _||_}
 use mathlib.Core.List.{List}
 use lib.Dec.{eqb}
 use Rattle.ground.specs.Lists.{span, every}
-use Rattle.part73.specs.TableA.{tableA}
 use Rattle.spacing.specs.Pair.{Assignment, sited, shortBy}
 use Rattle.spacing.specs.declared.Place.{Place}
 use Rattle.stations.specs.Image.{stationAt, count}
 use Rattle.stations.specs.Lists.{movable as isMovable}
 use Rattle.stations.specs.declared.Station.{Station}
-use Rattle.survey.specs.Ways.{onChannel, looked}
+use Rattle.survey.specs.Ways.{onChannel, looked, chosenFor}
 use Rattle.survey.specs.Walking.{blocks}
 use Rattle.survey.specs.declared.Terms.{Terms}
 
@@ -40,9 +39,9 @@ scene km look s new =
       meets = λ i m c. shortBy km (new c) (onChannel m (stationAt s i));
     }
 
--- that of a question: by Table A, on its terms
+-- that of a question, on its terms
 abbrev pub sceneOf : List ℕ → Terms → Place → Scene
-sceneOf s t p = scene tableA (looked t) s (sited p)
+sceneOf s t p = scene (chosenFor t) (looked t) s (sited p)
 
 -- the new station on c is short to nobody other than the one at i
 unfoldable pub newBut : Scene → ℕ → ℕ → Bool

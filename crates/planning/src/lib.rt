@@ -103,7 +103,7 @@ fn blocker_at(
     let r = stations::station_at(table, mark as usize - 1);
     let own = r.channel as usize;
     let theirs = survey::place_of(r);
-    let limits = spacing::limits_by(squares, theirs);
+    let limits = spacing::limits_by(squares, terms.standard, theirs);
     let channels = Channels {
         first: LOWEST,
         last: HIGHEST,

@@ -10,10 +10,9 @@ use Rattle.ground.specs.Lists.{span, each}
 use Rattle.ground.specs.Rows.{Row, flat}
 use Rattle.ground.proofs.Spans.{span-cons, span-done, each-each}
 use Rattle.part73.specs.Channels.{lowest, highest, newChannels}
-use Rattle.part73.specs.TableA.{tableA}
 use Rattle.stations.specs.Image.{stations}
 use Rattle.marking.specs.Marks.{Asked}
-use Rattle.survey.specs.Ways.{studied}
+use Rattle.survey.specs.Ways.{studied, chosenFor}
 use Rattle.survey.specs.declared.Terms.{Terms}
 use Rattle.desk.specs.Answers.{Outcome, grant, deny}
 use Rattle.studies.specs.Studies.{asked}
@@ -51,11 +50,11 @@ module _ (terms : Terms) (input : List ℕ) where
 
   -- the rows of a new channel
   rowsOn : ℕ → List Row
-  rowsOn = arranged tableA (asked (wantedOf lowest highest terms input)) (studied terms (stations (drop 10 input)))
+  rowsOn = arranged (chosenFor terms) (asked (wantedOf lowest highest terms input)) (studied terms (stations (drop 10 input)))
 
   rows-one : (c : ℕ) → linesText (rowsOf terms input c c) ≡ each rowText (rowsOn c)
   unfolding rowsOf rowsOn
-  rows-one c = lines-flat _ ∙ ap (each rowText) (one-channel tableA (asked (wantedOf lowest highest terms input)) (studied terms (stations (drop 10 input))) c)
+  rows-one c = lines-flat _ ∙ ap (each rowText) (one-channel (chosenFor terms) (asked (wantedOf lowest highest terms input)) (studied terms (stations (drop 10 input))) c)
 
   rows-all : linesText (rowsOf terms input lowest highest) ≡ each (λ c. each rowText (rowsOn c)) newChannels
   unfolding rowsOf rowsOn arrangements

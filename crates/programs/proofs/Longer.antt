@@ -11,7 +11,7 @@ use Rattle.survey.specs.declared.Terms.{Terms}
 use Rattle.subjects.specs.Subjects.{afterTerms, subjectOf}
 use Rattle.subjects.specs.declared.Subject.{Subject}
 use Rattle.subjects.specs.declared.Subject.the-variants.{Check as Check′, Arrange as Arrange′, Distance}
-use Rattle.asking.proofs.Longer.{most, enough, read-check, read-reason, read-arrange, read-change, read-distance}
+use Rattle.asking.proofs.Longer.{most, enough, read-check, read-reason, read-standard, read-arrange, read-change, read-distance}
 use Rattle.subjects.proofs.Subjects.{first-bytes}
 use Rattle.telling.specs.Texts.{printed, linesText, shortText, reasonText, imageText, distanceText}
 use Rattle.programs.specs.Printed.{printedCheck, printedArrange, printedChange, printedReason, printedDistance, printedAs, printedStudy, printedBy}
@@ -37,8 +37,8 @@ after k m l h =
     ap (drop k) (take-add k m l) ∙ ap (λ (n : ℕ). drop n (take k l ++ take m (drop k l))) (sym (length-take-le k l h)) ∙ drop-append-seam (take k l) (take m (drop k l))
 
 study-read : (x : Subject) (input : List ℕ) → most < length input → printedAs x (take most input) ≡ printedAs x input
-study-read (Check′ t) input h = ap (printedCheck t) (after afterTerms 65531 input (omega arith)) ∙ check-read 65531 (omega arith) t (drop afterTerms input)
-study-read (Arrange′ t) input h = ap (printedArrange t) (after afterTerms 65531 input (omega arith)) ∙ arrange-read 65531 (omega arith) t (drop afterTerms input)
+study-read (Check′ t) input h = ap (printedCheck t) (after afterTerms 65530 input (omega arith)) ∙ check-read 65530 (omega arith) t (drop afterTerms input)
+study-read (Arrange′ t) input h = ap (printedArrange t) (after afterTerms 65530 input (omega arith)) ∙ arrange-read 65530 (omega arith) t (drop afterTerms input)
 study-read Distance input h = distance-read most (omega arith) input
 
 pub as-read : (program : Program) (input : List ℕ) → printedBy program (take most input) ≡ printedBy program input
@@ -46,7 +46,7 @@ unfolding printedBy printedChange printedReason printedStudy
 as-read Check input = check-read most (omega arith) _ input
 as-read Arrange input = arrange-read most (omega arith) _ input
 as-read Change input = ap (printed imageText) (read-change most (omega arith) input)
-as-read Reason input = ap (printed reasonText) (read-reason most (omega arith) input)
+as-read Reason input = λ i. printed (reasonText (read-standard most (omega arith) input i)) (read-reason most (omega arith) input i)
 as-read Study input = elim (decLt most (length input)) [
   | yes h ↦ ap (λ (x : Subject). printedAs x (take most input)) (first-bytes most (omega arith) input (omega arith)) ∙ study-read (subjectOf input) input h
   | no n ↦ ap printedStudy (take-all most input (omega arith))

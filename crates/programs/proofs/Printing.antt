@@ -10,6 +10,7 @@ use lib.Seq.{take-append-seam}
 use borrow.Author.Tests.{lt-ltb, le-ltb, ne-eqb}
 use Rattle.ground.specs.Guard.{given}
 use Rattle.part73.specs.Channels.{channelCount}
+use Rattle.part73.specs.Standards.{byTableA}
 use Rattle.survey.specs.declared.Terms.{Terms}
 use Rattle.refusals.specs.Faults.{refusal, UnderEightBytes}
 use Rattle.lines.specs.Lines.{refusedLine}
@@ -72,14 +73,14 @@ pub study-printed : (input : List ℕ) {x : Subject} → subjectOf input ≡ x �
 unfolding printedStudy
 study-printed input {x} e = ap (λ (y : Subject). printedAs y input) (sym e)
 
--- with the id 0 after its letter it prints what the program of 01 prints
-pub study-as-check : (input : List ℕ) → printedStudy (99 ∷ 0 ∷ 0 ∷ 0 ∷ 0 ∷ input) ≡ printedBy Check input
+-- with the id 0 and the standard 1 after its letter it prints what the program of 01 prints
+pub study-as-check : (input : List ℕ) → printedStudy (99 ∷ 0 ∷ 0 ∷ 0 ∷ 0 ∷ byTableA ∷ input) ≡ printedBy Check input
 unfolding printedStudy printedBy subjectOf given be
-study-as-check input = let l : List ℕ = 99 ∷ 0 ∷ 0 ∷ 0 ∷ 0 ∷ input in rw (le-ltb (length l) 5 (omega arith))
+study-as-check input = let l : List ℕ = 99 ∷ 0 ∷ 0 ∷ 0 ∷ 0 ∷ byTableA ∷ input in rw (le-ltb (length l) afterTerms (omega arith))
 
-pub study-as-arrange : (input : List ℕ) → printedStudy (97 ∷ 0 ∷ 0 ∷ 0 ∷ 0 ∷ input) ≡ printedBy Arrange input
+pub study-as-arrange : (input : List ℕ) → printedStudy (97 ∷ 0 ∷ 0 ∷ 0 ∷ 0 ∷ byTableA ∷ input) ≡ printedBy Arrange input
 unfolding printedStudy printedBy subjectOf given be
-study-as-arrange input = let l : List ℕ = 97 ∷ 0 ∷ 0 ∷ 0 ∷ 0 ∷ input in rw (le-ltb (length l) 5 (omega arith))
+study-as-arrange input = let l : List ℕ = 97 ∷ 0 ∷ 0 ∷ 0 ∷ 0 ∷ byTableA ∷ input in rw (le-ltb (length l) afterTerms (omega arith))
 
 -- any letter but `c`, `a` and `d` is refused as a table under 8 bytes
 pub study-unnamed : (input : List ℕ) → (be 1 input 0 ≡ 99 → ⊥) → (be 1 input 0 ≡ 97 → ⊥) → (be 1 input 0 ≡ 100 → ⊥) → printedStudy input ≡ refusedLine (refusal UnderEightBytes)
@@ -95,17 +96,17 @@ ends-early : (k : ℕ) (text : List ℕ → List ℕ) (input : List ℕ) (o : Ou
 unfolding past given
 ends-early k text input o p h = rw (lt-ltb (length (drop afterTerms input)) k (omega (arith, length-drop afterTerms input, h)))
 
-pub study-early-check : (input : List ℕ) {t : Terms} → subjectOf input ≡ Check′ t → length input < 17 → printedStudy input ≡ refusedLine (refusal UnderEightBytes)
+pub study-early-check : (input : List ℕ) {t : Terms} → subjectOf input ≡ Check′ t → length input < 18 → printedStudy input ≡ refusedLine (refusal UnderEightBytes)
 unfolding printedCheck checkInput
 study-early-check input e h = sym (study-printed input e) ∙ ends-early 12 shortText input _ (omega arith) (omega arith)
 
-pub study-early-arrange : (input : List ℕ) {t : Terms} → subjectOf input ≡ Arrange′ t → length input < 15 → printedStudy input ≡ refusedLine (refusal UnderEightBytes)
+pub study-early-arrange : (input : List ℕ) {t : Terms} → subjectOf input ≡ Arrange′ t → length input < 16 → printedStudy input ≡ refusedLine (refusal UnderEightBytes)
 unfolding printedArrange arrangeInput
 study-early-arrange input e h = sym (study-printed input e) ∙ ends-early 10 linesText input _ (omega arith) (omega arith)
 
 -- ---- the reason
 
 -- input that ends before the table: 12 bytes and the terms
-pub reason-early : (input : List ℕ) → length input < 16 → printedReason input ≡ refusedLine (refusal UnderEightBytes)
+pub reason-early : (input : List ℕ) → length input < 17 → printedReason input ≡ refusedLine (refusal UnderEightBytes)
 unfolding printedReason reasonInput past given
-reason-early input h = rw (lt-ltb (length input) 16 h)
+reason-early input h = rw (lt-ltb (length input) 17 h)

@@ -1,10 +1,10 @@
--- 01, The programs; 02, R-1, R-2: all that a program prints, as one list of bytes, from its whole input. Assumes nothing.
+-- 01, The programs; 02, R-1, R-2, R-6: all that a program prints, as one list of bytes, from its whole input. Assumes nothing.
 use mathlib.Core.List.{List}
 use Prim.Native.Nat.{ℕ}
 use lib.ListN.{drop}
 use Rattle.survey.specs.declared.Terms.{Terms}
 use Rattle.part73.specs.Channels.{lowest, highest}
-use Rattle.asking.specs.Asking.{plain, checkInput, reasonInput, arrangeInput, changeInput, distanceInput}
+use Rattle.asking.specs.Asking.{plain, checkInput, reasonInput, standardOf, arrangeInput, changeInput, distanceInput}
 use Rattle.subjects.specs.Subjects.{afterTerms, subjectOf}
 use Rattle.subjects.specs.declared.Subject.{Subject}
 use Rattle.subjects.specs.declared.Subject.the-variants.{Check as Check′, Arrange as Arrange′, Distance}
@@ -16,9 +16,9 @@ use Rattle.telling.specs.Texts.{printed, linesText, shortText, reasonText, imag
 unfoldable pub printedCheck : Terms → List ℕ → List ℕ
 printedCheck t input = printed shortText (checkInput t input)
 
--- `clear`, or `id D R column`
+-- `clear`, or `id D R column standard`
 unfoldable pub printedReason : List ℕ → List ℕ
-printedReason input = printed reasonText (reasonInput input)
+printedReason input = printed (reasonText (standardOf input)) (reasonInput input)
 
 -- the lines of all arrangements on the new channels from 221 to 300
 unfoldable pub printedArrange : Terms → List ℕ → List ℕ

@@ -14,6 +14,7 @@ use asking::asked_change;
 use asking::asked_check;
 use asking::asked_distance;
 use asking::asked_reason;
+use asking::standard_of;
 use lines::LINE;
 use lines::REASON_LINE;
 use part73::CHANNEL_COUNT;
@@ -51,8 +52,11 @@ const ROWS: usize = 3 * versions::LIMIT;
 
 const IMAGE: usize = stations::HEADER + stations::RECORD * versions::LIMIT;
 
-// The terms of the programs of 01: nobody is left aside.
-const PLAIN: Terms = Terms { aside: 0 };
+// The terms of the programs of 01: nobody is left aside, and Table A is the standard.
+const PLAIN: Terms = Terms {
+    aside: 0,
+    standard: standards::BY_TABLE_A,
+};
 
 // Check, on its input.
 fn check(input: &[u8], terms: Terms, mark: &mut usize) -> bool
@@ -140,7 +144,8 @@ fn reason(input: &[u8], mark: &mut usize) -> bool
 {
     let mut text = [0u8; REASON_LINE];
     let why = asked_reason(input);
-    tell_reason(&mut text, why, mark)
+    let standard = standard_of(input);
+    tell_reason(&mut text, why, standard, mark)
 }
 
 // The program that is named, on its input.

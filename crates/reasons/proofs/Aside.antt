@@ -10,7 +10,8 @@ use Rattle.stations.specs.Encode.{encode}
 use Rattle.stations.specs.Lists.{hasId, without}
 use Rattle.stations.specs.declared.Judged.the-variants.{Table}
 use Rattle.desk.specs.Answers.{grant, onTable, onAsked}
-use Rattle.desk.specs.Asked.{askedFault}
+use Rattle.part73.specs.Standards.{chosen}
+use Rattle.studies.specs.Studies.{wantedFault}
 use Rattle.studies.proofs.Aside.{study-whole, study-without}
 use Rattle.checks.specs.Check.{asked, onOne}
 use Rattle.checks.specs.declared.Proposal.{Proposal}
@@ -23,6 +24,6 @@ unfolding reasonedFor
 aside-reasoned s b n e p h = study-without (onOne p) (reasonFor (asked p)) s b n e h
 
 -- with the id 0 every station of the table is studied
-pub whole-reasoned : (s : List ℕ) (p : Proposal) → reasonedFor s (whole p) ≡ onTable (judged s) (onAsked (askedFault (p .channel) (p .channel) (p .class) (p .zone) (p .latitude) (p .longitude)) (grant (reasonFor (asked p) (stations s))))
+pub whole-reasoned : (s : List ℕ) (p : Proposal) → reasonedFor s (whole p) ≡ onTable (judged s) (onAsked (wantedFault (onOne p)) (grant (reasonFor (asked p) (chosen (p .standard)) (stations s))))
 unfolding reasonedFor
 whole-reasoned s p = study-whole (onOne p) (reasonFor (asked p)) s

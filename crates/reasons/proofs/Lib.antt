@@ -5,3 +5,4 @@ pub mod Part
 pub mod Meaning
 pub mod Aside
 pub mod Unnamed
+pub mod Standards

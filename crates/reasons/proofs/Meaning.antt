@@ -9,8 +9,9 @@ use Rattle.ground.specs.Lists.{_∈_}
 use Rattle.ground.specs.Rows.{Row, row, flat}
 use Rattle.ground.proofs.Positions.{in-at}
 use Rattle.refusals.specs.declared.Refusal.{Refusal}
-use Rattle.part73.specs.TableA.{tableA}
-use Rattle.part73.proofs.Facts.{table-a}
+use Rattle.part73.specs.Separations.{Separations}
+use Rattle.part73.specs.Standards.{chosen}
+use Rattle.part73.proofs.Chosen.{chosen-table}
 use Rattle.spacing.specs.Pair.{Assignment, separation, columnFor}
 use Rattle.spacing.proofs.Rule.{for-most}
 use Rattle.stations.specs.Image.{stationAt, stations, count, Accepted}
@@ -62,29 +63,29 @@ one-answer a b e = sym (back a) ∙ (ap answerIn e ∙ back b)
     back (Refused f) = refl
 
 -- to a short station a column applies
-applies : (p : Assignment) (r : Station) → p .class < 8 → r .class < 8 → Short tableA p r → columnFor (p .channel) (r .channel) < 4
+applies : {km : ℕ → ℕ → ℕ → ℕ} → Separations km → (p : Assignment) (r : Station) → p .class < 8 → r .class < 8 → Short km p r → columnFor (p .channel) (r .channel) < 4
 unfolding separation
-applies p r a b h =
-    for-most (p .channel) (r .channel) (λ q. let z : tableA (p .class) (r .class) (columnFor (p .channel) (r .channel)) ≡ 0 = rw q (table-a .ends (p .class) (r .class) a b) in omega (arith, h, z))
+applies {km} table p r a b h =
+    for-most (p .channel) (r .channel) (λ q. let z : km (p .class) (r .class) (columnFor (p .channel) (r .channel)) ≡ 0 = rw q (table .ends (p .class) (r .class) a b) in omega (arith, h, z))
 
 -- ---- beside Check
 
-module _ (p : Assignment) (ss : List Station) where
+module _ (p : Assignment) (km : ℕ → ℕ → ℕ → ℕ) (ss : List Station) where
   -- the row of the station that is named is one of Check's
-  pub named-listed : (r : Station) → Named tableA p ss r → rowOf tableA p r ∈ shortRows tableA p ss
-  named-listed r n = short-listed tableA p ss (rowOf tableA p r) .1 (record { station = r; stands = n .stands; short = n .short; is = refl })
+  pub named-listed : (r : Station) → Named km p ss r → rowOf km p r ∈ shortRows km p ss
+  named-listed r n = short-listed km p ss (rowOf km p r) .1 (record { station = r; stands = n .stands; short = n .short; is = refl })
 
-  none-listed : Ascends ss → (reasonFor p ss ≡ []) ↔ (rowsFor p ss ≡ [])
+  none-listed : Ascends ss → (reasonFor p km ss ≡ []) ↔ (rowsFor p km ss ≡ [])
   unfolding shortRows flat
-  none-listed ids = (to (told p ss ids), from (told p ss ids))
+  none-listed ids = (to (told p km ss ids), from (told p km ss ids))
     where
-      to : Nobody p ss ⊎ Somebody p ss → reasonFor p ss ≡ [] → rowsFor p ss ≡ []
+      to : Nobody p km ss ⊎ Somebody p km ss → reasonFor p km ss ≡ [] → rowsFor p km ss ≡ []
       to (inl w) e = rw (w .free)
       to (inr w) e = absurd (never-empty _ (sym e ∙ w .numbers))
 
-      from : Nobody p ss ⊎ Somebody p ss → rowsFor p ss ≡ [] → reasonFor p ss ≡ []
+      from : Nobody p km ss ⊎ Somebody p km ss → rowsFor p km ss ≡ [] → reasonFor p km ss ≡ []
       from (inl w) e = w .numbers
-      from (inr w) e = absurd (some-rows (shortRows tableA p ss) (named-listed (w .who) (w .named)) e)
+      from (inr w) e = absurd (some-rows (shortRows km p ss) (named-listed (w .who) (w .named)) e)
 
 module _ (s : List ℕ) (p : Proposal) where
   -- "clear" is said exactly when Check, asked the same, lists nothing
@@ -95,12 +96,12 @@ module _ (s : List ℕ) (p : Proposal) where
       to : grant [] ≡ study s (onOne p) (reasonFor (asked p)) → study s (onOne p) (rowsFor (asked p)) ≡ grant []
       to e =
           let g = granted-was s (onOne p) (reasonFor (asked p)) [] (sym e) in
-          granted-on s (onOne p) (rowsFor (asked p)) (g .0) (g .1) ∙ ap grant (none-listed (asked p) (studiedFor s p) (studied-ascend s (count s) (g .0) (termsAsked (onOne p))) .0 (g .2))
+          granted-on s (onOne p) (rowsFor (asked p)) (g .0) (g .1) ∙ ap grant (none-listed (asked p) (chosen (p .standard)) (studiedFor s p) (studied-ascend s (count s) (g .0) (termsAsked (onOne p))) .0 (g .2))
 
       from : study s (onOne p) (rowsFor (asked p)) ≡ grant [] → grant [] ≡ study s (onOne p) (reasonFor (asked p))
       from e =
           let g = granted-was s (onOne p) (rowsFor (asked p)) [] e in
-          sym (granted-on s (onOne p) (reasonFor (asked p)) (g .0) (g .1) ∙ ap grant (none-listed (asked p) (studiedFor s p) (studied-ascend s (count s) (g .0) (termsAsked (onOne p))) .1 (g .2)))
+          sym (granted-on s (onOne p) (reasonFor (asked p)) (g .0) (g .1) ∙ ap grant (none-listed (asked p) (chosen (p .standard)) (studiedFor s p) (studied-ascend s (count s) (g .0) (termsAsked (onOne p))) .1 (g .2)))
 
   -- and a refusal is given exactly when Check refuses so, its room left aside
   pub refused-alike : (f : Refusal) → (outcomeOf (Refused f) ≡ reasonedFor s p) ↔ (checkedFor s p ≡ deny f)
@@ -110,10 +111,10 @@ module _ (s : List ℕ) (p : Proposal) where
   -- ---- the station that is named
 
   -- there is one answer: where nothing is wrong, any station with these properties is the one that is told
-  pub only-reason : Accepted s → studyFault (stations s) (onOne p) ≡ Sound → (r : Station) → Named tableA (asked p) (studiedFor s p) r → reasonedFor s p ≡ outcomeOf (Blocked (neighbourOf tableA (asked p) r))
+  pub only-reason : Accepted s → studyFault (stations s) (onOne p) ≡ Sound → (r : Station) → Named (chosen (p .standard)) (asked p) (studiedFor s p) r → reasonedFor s p ≡ outcomeOf (Blocked (neighbourOf (chosen (p .standard)) (asked p) r))
   unfolding reasonedFor
   only-reason e q r n =
-      granted-on s (onOne p) (reasonFor (asked p)) e q ∙ ap grant (reason-one (asked p) (studiedFor s p) (studied-ascend s (count s) e (termsAsked (onOne p))) r n)
+      granted-on s (onOne p) (reasonFor (asked p)) e q ∙ ap grant (reason-one (asked p) (chosen (p .standard)) (studiedFor s p) (studied-ascend s (count s) e (termsAsked (onOne p))) r n)
 
   -- what is said with "blocked", and the part beside it
   pub explained : (n : Neighbour) (part : List ℕ) → Reasoned s p (Blocked n) part → Explains s p n part
@@ -130,8 +131,8 @@ module _ (s : List ℕ) (p : Proposal) where
         who = b .who;
         named = b .named;
         is = b .is;
-        one-of-four = rw (b .is) (applies (asked p) (b .who) (passed-one s p e (b .sound) .placed .known) (rw there at (known-at s e i (at .0) .placed .known)) (b .named .short));
-        listed = rw (b .is) (named-listed (asked p) (studiedFor s p) (b .who) (b .named));
+        one-of-four = rw (b .is) (applies (chosen-table (p .standard)) (asked p) (b .who) (passed-one s p e (b .sound) .placed .known) (rw there at (known-at s e i (at .0) .placed .known)) (b .named .short));
+        listed = rw (b .is) (named-listed (asked p) (chosen (p .standard)) (studiedFor s p) (b .who) (b .named));
         position = i;
         within = at .0;
         there = there;

@@ -11,7 +11,7 @@ use Rattle.ground.specs.Lists.{_∈_, keep, each}
 use Rattle.ground.proofs.Order.{in-keep}
 use Rattle.ground.proofs.Positions.{position}
 use Rattle.ground.proofs.Firsts.{some-at}
-use Rattle.part73.specs.TableA.{tableA}
+use Rattle.part73.specs.Standards.{chosen}
 use Rattle.spacing.specs.Pair.{Assignment}
 use Rattle.stations.specs.Image.{stations, count, Accepted}
 use Rattle.stations.specs.Lists.{hasId}
@@ -34,52 +34,52 @@ use Rattle.reasons.specs.declared.Why.the-variants.{Clear, Blocked, Refu
 use Rattle.reasons.proofs.Named.{worst-one}
 use Rattle.reasons.proofs.Keeping.{kept-named}
 
-module _ (p : Assignment) (ss : List Station) where
+module _ (p : Assignment) (km : ℕ → ℕ → ℕ → ℕ) (ss : List Station) where
   -- what a walk keeps
   abbrev pub walked : Neighbour
-  walked = kept nobody (map (neighbourOf tableA p) (keep (near tableA p) ss))
+  walked = kept nobody (map (neighbourOf km p) (keep (near km p) ss))
 
   -- nobody is in the way
   pub record Nobody : Type 0 where
-    pub free : keep (near tableA p) ss ≡ []
-    pub numbers : reasonFor p ss ≡ []
+    pub free : keep (near km p) ss ≡ []
+    pub numbers : reasonFor p km ss ≡ []
     pub keeps : walked ≡ nobody
 
   -- a station is named
   pub record Somebody : Type 0 where
     pub who : Station
-    pub named : Named tableA p ss who
-    pub numbers : reasonFor p ss ≡ numbersOf (neighbourOf tableA p who)
-    pub keeps : walked ≡ neighbourOf tableA p who
+    pub named : Named km p ss who
+    pub numbers : reasonFor p km ss ≡ numbersOf (neighbourOf km p who)
+    pub keeps : walked ≡ neighbourOf km p who
 
   module _ (ids : Ascends ss) where
     -- the numbers of the station that is named
-    pub reason-one : (r : Station) → Named tableA p ss r → reasonFor p ss ≡ numbersOf (neighbourOf tableA p r)
+    pub reason-one : (r : Station) → Named km p ss r → reasonFor p km ss ≡ numbersOf (neighbourOf km p r)
     unfolding reasonFor each
-    reason-one r n = rw (worst-one tableA p ss ids r n)
+    reason-one r n = rw (worst-one km p ss ids r n)
 
     pub told : Nobody ⊎ Somebody
     unfolding reasonFor worst keep each
-    told = go (kept-named tableA p ss ids)
+    told = go (kept-named km p ss ids)
       where
-        go : ((keep (near tableA p) ss ≡ []) × (walked ≡ nobody)) ⊎ ((r : Station) × Named tableA p ss r × (walked ≡ neighbourOf tableA p r)) → Nobody ⊎ Somebody
+        go : ((keep (near km p) ss ≡ []) × (walked ≡ nobody)) ⊎ ((r : Station) × Named km p ss r × (walked ≡ neighbourOf km p r)) → Nobody ⊎ Somebody
         go (inl w) = inl (record { free = w .0; numbers = rw (w .0); keeps = w .1 })
         go (inr w) = inr (record { who = w .0; named = w .1; numbers = reason-one (w .0) (w .1); keeps = w .2 })
 
     module _ (most : Neighbour) (is : most ≡ walked) where
       -- what is kept has no separation: nobody is in the way
-      pub kept-clear : most .separation ≡ 0 → [] ≡ reasonFor p ss
+      pub kept-clear : most .separation ≡ 0 → [] ≡ reasonFor p km ss
       kept-clear z = go told
         where
-          go : Nobody ⊎ Somebody → [] ≡ reasonFor p ss
+          go : Nobody ⊎ Somebody → [] ≡ reasonFor p km ss
           go (inl w) = sym (w .numbers)
           go (inr w) = absurd (omega (arith, w .named .short, ap (λ (n : Neighbour). n .separation) (is ∙ w .keeps), z))
 
       -- else its numbers are those of the reason
-      pub kept-blocked : (most .separation ≡ 0 → ⊥) → numbersOf most ≡ reasonFor p ss
+      pub kept-blocked : (most .separation ≡ 0 → ⊥) → numbersOf most ≡ reasonFor p km ss
       kept-blocked z = go told
         where
-          go : Nobody ⊎ Somebody → numbersOf most ≡ reasonFor p ss
+          go : Nobody ⊎ Somebody → numbersOf most ≡ reasonFor p km ss
           go (inl w) = absurd (z (ap (λ (n : Neighbour). n .separation) (is ∙ w .keeps)))
           go (inr w) = ap numbersOf (is ∙ w .keeps) ∙ sym (w .numbers)
 
@@ -98,16 +98,16 @@ module _ (s : List ℕ) (p : Proposal) where
     pub accepted : Accepted s
     pub sound : studyFault (stations s) (onOne p) ≡ Sound
     pub who : Station
-    pub named : Named tableA (asked p) (studiedFor s p) who
-    pub is : n ≡ neighbourOf tableA (asked p) who
+    pub named : Named (chosen (p .standard)) (asked p) (studiedFor s p) who
+    pub is : n ≡ neighbourOf (chosen (p .standard)) (asked p) who
 
   pub blocking : (n : Neighbour) → outcomeOf (Blocked n) ≡ reasonedFor s p → Blocking n
   unfolding reasonedFor
   blocking n e =
       let g = granted-was s (onOne p) (reasonFor (asked p)) (numbersOf n) (sym e) in
-      go (g .0) (g .1) (g .2) (told (asked p) (studiedFor s p) (studied-ascend s (count s) (g .0) (termsAsked (onOne p))))
+      go (g .0) (g .1) (g .2) (told (asked p) (chosen (p .standard)) (studiedFor s p) (studied-ascend s (count s) (g .0) (termsAsked (onOne p))))
     where
-      go : Accepted s → studyFault (stations s) (onOne p) ≡ Sound → reasonFor (asked p) (studiedFor s p) ≡ numbersOf n → Nobody (asked p) (studiedFor s p) ⊎ Somebody (asked p) (studiedFor s p) → Blocking n
+      go : Accepted s → studyFault (stations s) (onOne p) ≡ Sound → reasonFor (asked p) (chosen (p .standard)) (studiedFor s p) ≡ numbersOf n → Nobody (asked p) (chosen (p .standard)) (studiedFor s p) ⊎ Somebody (asked p) (chosen (p .standard)) (studiedFor s p) → Blocking n
       go a f q (inl w) = absurd (never-empty n (sym (w .numbers) ∙ q))
       go a f q (inr w) = record { accepted = a; sound = f; who = w .who; named = w .named; is = ap neighbourIn (sym q ∙ w .numbers) }
 

@@ -4,7 +4,6 @@ use mathlib.Core.Bool.{true}
 use mathlib.Core.List.{List, [], _∷_, map}
 use Prim.Native.Nat.{ℕ}
 use Rattle.ground.specs.Lists.{some}
-use Rattle.part73.specs.TableA.{tableA}
 use Rattle.spacing.specs.Pair.{Assignment}
 use Rattle.stations.specs.Image.{stationAt, stations, Accepted}
 use Rattle.stations.specs.Lists.{hasId}
@@ -21,8 +20,8 @@ abbrev pub nobody : Neighbour
 nobody = record { id = 0; distance = 0; separation = 0; column = 0 }
 
 -- the neighbours at noted positions
-abbrev pub neighboursAt : List ℕ → Assignment → List ℕ → List Neighbour
-neighboursAt s p vs = map (λ j. neighbourOf tableA p (stationAt s j)) vs
+abbrev pub neighboursAt : (ℕ → ℕ → ℕ → ℕ) → List ℕ → Assignment → List ℕ → List Neighbour
+neighboursAt km s p vs = map (λ j. neighbourOf km p (stationAt s j)) vs
 
 -- what is kept of a list, after one
 unfoldable pub kept : Neighbour → List Neighbour → Neighbour

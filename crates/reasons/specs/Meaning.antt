@@ -1,11 +1,11 @@
--- 02, R-2, in the owner's words: which station is the reason, and what is said of it. Assumes nothing.
+-- 02, R-2, R-6, in the owner's words: which station is the reason, and what is said of it. Assumes nothing.
 use mathlib.Core.Path.{_≡_}
 use mathlib.Core.List.{List}
 use Prim.Native.Nat.{ℕ, _≤_, _<_}
 use Rattle.ground.specs.Lists.{_∈_}
 use Rattle.ground.specs.Rows.{row}
 use Rattle.wire.specs.Be.{Bytes}
-use Rattle.part73.specs.TableA.{tableA}
+use Rattle.part73.specs.Standards.{chosen}
 use Rattle.spacing.specs.Pair.{Assignment}
 use Rattle.stations.specs.Image.{stationAt, stations, count, bytesAt}
 use Rattle.stations.specs.Encode.{recordOf}
@@ -35,12 +35,12 @@ studiedFor s p = studied (termsAsked (onOne p)) (stations s)
 -- what is told with "blocked", n, and the part of the table that is handed back
 pub record Explains (s : List ℕ) (p : Proposal) (n : Neighbour) (part : List ℕ) : Type 0 where
   pub who : Station
-  pub named : Named tableA (asked p) (studiedFor s p) who
+  pub named : Named (chosen (p .standard)) (asked p) (studiedFor s p) who
   -- its id, D, R and the column that applied, one of the four
-  pub is : n ≡ neighbourOf tableA (asked p) who
+  pub is : n ≡ neighbourOf (chosen (p .standard)) (asked p) who
   pub one-of-four : n .column < 4
   -- it is one of Check's rows, with the same D and R
-  pub listed : row (n .id) (n .distance) (n .separation) ∈ shortRows tableA (asked p) (studiedFor s p)
+  pub listed : row (n .id) (n .distance) (n .separation) ∈ shortRows (chosen (p .standard)) (asked p) (studiedFor s p)
   -- the part is its record as it lies in the table: the bytes at its position, which are the encoding of the station
   pub position : ℕ
   pub within : position < count s

@@ -1,4 +1,4 @@
--- 02, R-2: why a channel is blocked. Of the stations that are studied and short to what is proposed, the one with the largest
+-- 02, R-2, R-6: why a channel is blocked. Of the stations that are studied and short to what is proposed, the one with the largest
 -- shortfall R - D, the lowest id among equals; and its own bytes of the lent table. Assumes nothing.
 use mathlib.Core.Path.{_≡_}
 use mathlib.Core.Bool.{Bool, _&&_, _||_}
@@ -6,7 +6,6 @@ use mathlib.Core.List.{List, [], _∷_}
 use Prim.Native.Nat.{ℕ, _+_, _*_}
 use lib.Dec.{leb, ltb, eqb}
 use Rattle.ground.specs.Lists.{keep, every, each, first}
-use Rattle.part73.specs.TableA.{tableA}
 use Rattle.spacing.specs.Pair.{Assignment}
 use Rattle.stations.specs.Image.{stations, bytesAt}
 use Rattle.stations.specs.Lists.{hasId}
@@ -41,9 +40,9 @@ module _ (km : ℕ → ℕ → ℕ → ℕ) (p : Assignment) where
 abbrev pub numbersOf : Neighbour → List ℕ
 numbersOf n = n .id ∷ n .distance ∷ n .separation ∷ n .column ∷ []
 
--- by Table A; no numbers where nobody is in the way
-unfoldable pub reasonFor : Assignment → List Station → List ℕ
-reasonFor p ss = each (λ r. numbersOf (neighbourOf tableA p r)) (worst tableA p ss)
+-- by a table of separations; no numbers where nobody is in the way
+unfoldable pub reasonFor : Assignment → (ℕ → ℕ → ℕ → ℕ) → List Station → List ℕ
+reasonFor p km ss = each (λ r. numbersOf (neighbourOf km p r)) (worst km p ss)
 
 -- the outcome of the question
 unfoldable pub reasonedFor : List ℕ → Proposal → Outcome

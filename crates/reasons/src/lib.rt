@@ -1,8 +1,9 @@
 // Why a channel is blocked: the station in the way that is short by the most, and its own bytes of the lent table.
 ghost use mathlib.Core.Path.{_≡_};
+ghost use Rattle.part73.specs.Standards.{chosen};
 ghost use Rattle.spacing.specs.Pair.{sited};
 ghost use Rattle.stations.specs.Image.{stations};
-ghost use Rattle.survey.specs.Ways.{studied};
+ghost use Rattle.survey.specs.Ways.{studied, chosenFor};
 ghost use Rattle.desk.specs.Answers.{grant};
 ghost use Rattle.checks.specs.Positions.{Passed};
 ghost use Rattle.nearby.specs.Positions.{NotedAt};
@@ -38,16 +39,24 @@ pub struct ReasonSheet<'a> {
     pub answer: Why,
 }
 
-// Of the stations at the first k noted positions, the one that is short by the most, the first among equals.
-fn most_of(table: &[u8], channel: usize, place: Place, hits: &[u16; LIMIT], k: usize) -> Neighbour
+// Of the stations at the first k noted positions, the one that is short by the most by a standard, the first among equals.
+fn most_of(
+    table: &[u8],
+    standard: u32,
+    channel: usize,
+    place: Place,
+    hits: &[u16; LIMIT],
+    k: usize,
+) -> Neighbour
     requires { ⌜ NotedAt (now table) place (now hits) k ⌝ }
-    ensures { λ r. ⌜ r ≡ kept nobody (neighboursAt (now (table .entry)) (sited place channel) (take k (now (hits .entry)))) ⌝ }
+    ensures { λ r. ⌜ r ≡ kept nobody (neighboursAt (chosen standard) (now (table .entry)) (sited place channel) (take k (now (hits .entry)))) ⌝ }
 {
+    let separations = standards::rows_by(standard);
     let mut most = NOBODY;
     let mut t: usize = 0;
     while t < k {
         let i = hits[t] as usize;
-        let next = neighbour_at(table, i, channel, place);
+        let next = neighbour_at(table, i, &separations, channel, place);
         most = worse(most, next);
         t += 1;
     }
@@ -57,11 +66,11 @@ fn most_of(table: &[u8], channel: usize, place: Place, hits: &[u16; LIMIT], k: u
 // The reason for a proposal that passed its checks.
 fn found(table: &[u8], terms: Terms, channel: usize, place: Place) -> Why
     requires { ⌜ Passed (now table) channel place ⌝ }
-    ensures { λ r. ⌜ outcomeOf r ≡ grant (reasonFor (sited place channel) (studied terms (stations (now (table .entry))))) ⌝ }
+    ensures { λ r. ⌜ outcomeOf r ≡ grant (reasonFor (sited place channel) (chosenFor terms) (studied terms (stations (now (table .entry))))) ⌝ }
 {
     let mut hits = [NO_POSITION; LIMIT];
     let k = nearby::note_short(table, terms, channel, place, &mut hits);
-    let most = most_of(table, channel, place, &hits, k);
+    let most = most_of(table, terms.standard, channel, place, &hits, k);
     if most.separation == 0 {
         return Why::Clear;
     }

@@ -56,3 +56,5 @@ pub const ID_ABSENT: u32 = 23;
 pub const TOO_FAR: u32 = 24;
 // Move: not movable
 pub const NOT_MOVABLE: u32 = 25;
+// Check, Arrange, the reason: a standard not 1 or 2
+pub const STANDARD_UNKNOWN: u32 = 26;

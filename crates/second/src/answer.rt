@@ -52,13 +52,15 @@ pub(crate) const TOO_FAR: u64 = 24;
 
 pub(crate) const NOT_MOVABLE: u64 = 25;
 
+pub(crate) const ASKED_STANDARD: u64 = 26;
+
 // The least packed refusal, 2^32.
 const REFUSED: u64 = 4_294_967_296;
 
 // A refusal's number in the high half and its extra number in the low half.
 pub(crate) fn refused(number: u64, extra: u64) -> u64
-    requires { ⌜ (1 ≤ number) × (number ≤ 25) ⌝ }
-    ensures { λ r. ⌜ (2 ^ 32 ≤ r) × (r < 26 * 2 ^ 32) ⌝ }
+    requires { ⌜ (1 ≤ number) × (number ≤ 26) ⌝ }
+    ensures { λ r. ⌜ (2 ^ 32 ≤ r) × (r < 27 * 2 ^ 32) ⌝ }
 {
     number * REFUSED + extra % REFUSED
 }

@@ -24,6 +24,7 @@ use super::records::on_channel;
 use super::records::place;
 use super::records::position;
 use super::records::station_at;
+use second_rule::TABLE_A;
 ghost use Prim.Native.Nat.{_≤_, _<_};
 ghost use Rattle.second.specs.Answer.{Packed};
 ghost use Rattle.second.specs.Sizes.{capacity};
@@ -69,7 +70,7 @@ fn add_to(table: &[u8], n: usize, new: Station, image: &mut [u8]) -> u64
     if same < n {
         return refused(ID_PRESENT, same as u64);
     }
-    let blocker = first_short(table, n, new, id);
+    let blocker = first_short(table, n, TABLE_A, new, id);
     if blocker < n {
         return refused(TOO_SHORT, blocker as u64);
     }
@@ -102,7 +103,7 @@ pub fn add(
     if number != 0 {
         return refused(number, judged.extra);
     }
-    let wrong = fault(channel, channel, class, zone, lat, lon);
+    let wrong = fault(channel, channel, class, zone, TABLE_A, lat, lon);
     if wrong != 0 {
         return refused(wrong, 0);
     }
@@ -150,7 +151,7 @@ fn move_in(table: &[u8], n: usize, id: u64, channel: u64, image: &mut [u8]) -> u
         return refused(NOT_MOVABLE, p as u64);
     }
     let moved = on_channel(old, channel);
-    let blocker = first_short(table, n, moved, id);
+    let blocker = first_short(table, n, TABLE_A, moved, id);
     if blocker < n {
         return refused(TOO_SHORT, blocker as u64);
     }

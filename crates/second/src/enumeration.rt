@@ -16,19 +16,20 @@ ghost use Rattle.second.specs.Answer.{Packed};
 ghost use Rattle.second.specs.Sizes.{capacity};
 
 // Whether a station, on its new channel, is short neither to the new station nor to any other that is not left aside.
-fn clean(table: &[u8], n: usize, new: Station, moved: Station) -> bool
+fn clean(table: &[u8], n: usize, standard: u64, new: Station, moved: Station) -> bool
     requires { ⌜ n ≤ capacity ⌝ }
 {
-    if short(moved, new) {
+    if short(standard, moved, new) {
         return false;
     }
-    first_short(table, n, moved, new.id) == n
+    first_short(table, n, standard, moved, new.id) == n
 }
 
 // Writes the row that moves the station at a position to another channel if that is clean, and gives the place behind it.
 fn put_clean(
     table: &[u8],
     n: usize,
+    standard: u64,
     new: Station,
     p: usize,
     channel: u64,
@@ -42,7 +43,7 @@ fn put_clean(
     if channel == old.channel {
         return at;
     }
-    if !clean(table, n, new, on_channel(old, channel)) {
+    if !clean(table, n, standard, new, on_channel(old, channel)) {
         return at;
     }
     put_row(rows, at, new.channel, old.id, channel)
@@ -52,6 +53,7 @@ fn put_clean(
 fn put_channels(
     table: &[u8],
     n: usize,
+    standard: u64,
     new: Station,
     p: usize,
     rows: &mut [u32],
@@ -63,7 +65,7 @@ fn put_channels(
     let mut at = start;
     let mut channel: u64 = 221;
     while channel <= 300 {
-        at = put_clean(table, n, new, p, channel, rows, at);
+        at = put_clean(table, n, standard, new, p, channel, rows, at);
         channel += 1;
     }
     at
@@ -73,6 +75,7 @@ fn put_channels(
 fn put_mover(
     table: &[u8],
     n: usize,
+    standard: u64,
     new: Station,
     p: usize,
     rows: &mut [u32],
@@ -88,24 +91,31 @@ fn put_mover(
     if !movable(old) {
         return start;
     }
-    if first_short(table, n, new, old.id) < n {
+    if first_short(table, n, standard, new, old.id) < n {
         return start;
     }
-    put_channels(table, n, new, p, rows, start)
+    put_channels(table, n, standard, new, p, rows, start)
 }
 
 // Writes the rows of one new channel, and gives the place behind them.
-fn put_channel(table: &[u8], n: usize, new: Station, rows: &mut [u32], start: usize) -> usize
+fn put_channel(
+    table: &[u8],
+    n: usize,
+    standard: u64,
+    new: Station,
+    rows: &mut [u32],
+    start: usize,
+) -> usize
     requires { ⌜ (n ≤ capacity) × (start ≤ 400000000) ⌝ }
     ensures { λ r. ⌜ r ≤ start + 240 * capacity ⌝ }
 {
-    if first_short(table, n, new, new.id) == n {
+    if first_short(table, n, standard, new, new.id) == n {
         return put_row(rows, start, new.channel, 0, 0);
     }
     let mut at = start;
     let mut p: usize = 0;
     while p < n {
-        at = put_mover(table, n, new, p, rows, at);
+        at = put_mover(table, n, standard, new, p, rows, at);
         p += 1;
     }
     at
@@ -117,6 +127,7 @@ fn put_asked(
     n: usize,
     first: u64,
     last: u64,
+    standard: u64,
     new: Station,
     rows: &mut [u32],
     start: usize,
@@ -130,7 +141,7 @@ fn put_asked(
     if last < new.channel {
         return start;
     }
-    put_channel(table, n, new, rows, start)
+    put_channel(table, n, standard, new, rows, start)
 }
 
 // Writes the rows of the new channels first to last, and gives how many numbers they are.
@@ -139,6 +150,7 @@ fn put_arrange(
     n: usize,
     first: u64,
     last: u64,
+    standard: u64,
     new: Station,
     rows: &mut [u32],
 ) -> usize
@@ -148,23 +160,39 @@ fn put_arrange(
     let mut at: usize = 0;
     let mut channel: u64 = 221;
     while channel <= 300 {
-        at = put_asked(table, n, first, last, on_channel(new, channel), rows, at);
+        at = put_asked(
+            table,
+            n,
+            first,
+            last,
+            standard,
+            on_channel(new, channel),
+            rows,
+            at,
+        );
         channel += 1;
     }
     at
 }
 
 // How many numbers the rows of the new channels first to last are.
-fn count_arrange(table: &[u8], n: usize, first: u64, last: u64, new: Station) -> usize
+fn count_arrange(
+    table: &[u8],
+    n: usize,
+    first: u64,
+    last: u64,
+    standard: u64,
+    new: Station,
+) -> usize
     requires { ⌜ n ≤ capacity ⌝ }
     ensures { λ r. ⌜ r ≤ 80 * 240 * capacity ⌝ }
 {
     let mut none = [0u32; 1];
-    put_arrange(table, n, first, last, new, &mut none)
+    put_arrange(table, n, first, last, standard, new, &mut none)
 }
 
-// The rows new channel, id moved, its new channel of the arrangements for a proposal on first to last; the station of an id is left
-// aside, 0 for none.
+// The rows new channel, id moved, its new channel of the arrangements for a proposal on first to last by a standard; the station of
+// an id is left aside, 0 for none.
 pub fn arrange(
     table: &[u8],
     first: u32,
@@ -174,11 +202,13 @@ pub fn arrange(
     lat: i32,
     lon: i32,
     aside: u32,
+    standard: u32,
     rows: &mut [u32],
 ) -> u64
     ensures { λ r. do ⌜ Packed (← ⟦rows.len()⟧ .entry) r ⌝ }
 {
-    let wrong = fault(first, last, class, zone, lat, lon);
+    let by = standard as u64;
+    let wrong = fault(first, last, class, zone, by, lat, lon);
     let judged = judge_study(table, wrong, aside);
     let number = judged.number;
     if number != 0 {
@@ -186,10 +216,10 @@ pub fn arrange(
     }
     let n = judged.stations;
     let new = proposed(aside, first, class, lat, lon);
-    let need = count_arrange(table, n, first as u64, last as u64, new);
+    let need = count_arrange(table, n, first as u64, last as u64, by, new);
     if rows.len() < need {
         return refused(NO_ROOM, need as u64);
     }
-    put_arrange(table, n, first as u64, last as u64, new, rows);
+    put_arrange(table, n, first as u64, last as u64, by, new, rows);
     need as u64
 }

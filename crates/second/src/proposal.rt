@@ -2,6 +2,7 @@
 use super::answer::ASKED_CHANNEL;
 use super::answer::ASKED_CLASS;
 use super::answer::ASKED_SITE;
+use super::answer::ASKED_STANDARD;
 use super::answer::ASKED_ZONE;
 use super::answer::NOT_PERMITTED;
 use super::big_endian::word;
@@ -9,7 +10,9 @@ use super::records::Station;
 use super::records::east;
 use super::records::north;
 use second_rule::LATITUDES;
+use second_rule::LESSER;
 use second_rule::LONGITUDES;
+use second_rule::TABLE_A;
 ghost use Prim.Native.Nat.{_≤_};
 
 // Whether a site is out of range.
@@ -39,9 +42,17 @@ fn permitted(class: u32, zone: u32) -> bool {
     class < 3
 }
 
-// 14 to 17, or 0: what is wrong with a class, a zone and a site.
-fn station_fault(class: u32, zone: u32, lat: i32, lon: i32) -> u64
-    ensures { λ r. ⌜ r ≤ 17 ⌝ }
+// Whether a number is that of no standard.
+fn other_standard(standard: u64) -> bool {
+    if standard == TABLE_A {
+        return false;
+    }
+    standard != LESSER
+}
+
+// 14 to 17 or 26, or 0: what is wrong with a class, a zone, a standard and a site.
+fn station_fault(class: u32, zone: u32, standard: u64, lat: i32, lon: i32) -> u64
+    ensures { λ r. ⌜ r ≤ 26 ⌝ }
 {
     if 7 < class {
         return ASKED_CLASS;
@@ -55,15 +66,26 @@ fn station_fault(class: u32, zone: u32, lat: i32, lon: i32) -> u64
     if !permitted(class, zone) {
         return NOT_PERMITTED;
     }
+    if other_standard(standard) {
+        return ASKED_STANDARD;
+    }
     if out_of_range(lat, lon) {
         return ASKED_SITE;
     }
     0
 }
 
-// 13 to 17, or 0: what is wrong with a proposal on the channels first to last.
-pub(crate) fn fault(first: u32, last: u32, class: u32, zone: u32, lat: i32, lon: i32) -> u64
-    ensures { λ r. ⌜ r ≤ 17 ⌝ }
+// 13 to 17 or 26, or 0: what is wrong with a proposal on the channels first to last, by a standard.
+pub(crate) fn fault(
+    first: u32,
+    last: u32,
+    class: u32,
+    zone: u32,
+    standard: u64,
+    lat: i32,
+    lon: i32,
+) -> u64
+    ensures { λ r. ⌜ r ≤ 26 ⌝ }
 {
     if outside(first) {
         return ASKED_CHANNEL;
@@ -74,7 +96,7 @@ pub(crate) fn fault(first: u32, last: u32, class: u32, zone: u32, lat: i32, lon:
     if last < first {
         return ASKED_CHANNEL;
     }
-    station_fault(class, zone, lat, lon)
+    station_fault(class, zone, standard, lat, lon)
 }
 
 // The proposal as a station.

@@ -15,43 +15,43 @@ ghost use Rattle.second.specs.Answer.{Packed};
 ghost use Rattle.second.specs.Sizes.{capacity};
 
 // Writes the row of a station if it is short to the proposal and not left aside, and gives the place behind it.
-fn put_short(new: Station, s: Station, rows: &mut [u32], at: usize) -> usize
+fn put_short(standard: u64, new: Station, s: Station, rows: &mut [u32], at: usize) -> usize
     requires { ⌜ at ≤ 1000000000 ⌝ }
     ensures { λ r. ⌜ r ≤ at + 3 ⌝ }
 {
     if s.id == new.id {
         return at;
     }
-    if !short(new, s) {
+    if !short(standard, new, s) {
         return at;
     }
-    put_row(rows, at, s.id, apart(new, s), required(new, s))
+    put_row(rows, at, s.id, apart(new, s), required(standard, new, s))
 }
 
 // Writes the rows of all short stations where there is room, and gives how many numbers they are.
-fn put_check(table: &[u8], n: usize, new: Station, rows: &mut [u32]) -> usize
+fn put_check(table: &[u8], n: usize, standard: u64, new: Station, rows: &mut [u32]) -> usize
     requires { ⌜ n ≤ capacity ⌝ }
     ensures { λ r. ⌜ r ≤ 3 * capacity ⌝ }
 {
     let mut at: usize = 0;
     let mut i: usize = 0;
     while i < n {
-        at = put_short(new, station_at(table, i), rows, at);
+        at = put_short(standard, new, station_at(table, i), rows, at);
         i += 1;
     }
     at
 }
 
 // How many numbers the rows of all short stations are.
-fn count_check(table: &[u8], n: usize, new: Station) -> usize
+fn count_check(table: &[u8], n: usize, standard: u64, new: Station) -> usize
     requires { ⌜ n ≤ capacity ⌝ }
     ensures { λ r. ⌜ r ≤ 3 * capacity ⌝ }
 {
     let mut none = [0u32; 1];
-    put_check(table, n, new, &mut none)
+    put_check(table, n, standard, new, &mut none)
 }
 
-// The rows id, D, R of the stations that are short to a proposal; the station of an id is left aside, 0 for none.
+// The rows id, D, R of the stations that are short to a proposal by a standard; the station of an id is left aside, 0 for none.
 pub fn check(
     table: &[u8],
     channel: u32,
@@ -60,11 +60,13 @@ pub fn check(
     lat: i32,
     lon: i32,
     aside: u32,
+    standard: u32,
     rows: &mut [u32],
 ) -> u64
     ensures { λ r. do ⌜ Packed (← ⟦rows.len()⟧ .entry) r ⌝ }
 {
-    let wrong = fault(channel, channel, class, zone, lat, lon);
+    let by = standard as u64;
+    let wrong = fault(channel, channel, class, zone, by, lat, lon);
     let judged = judge_study(table, wrong, aside);
     let number = judged.number;
     if number != 0 {
@@ -72,10 +74,10 @@ pub fn check(
     }
     let n = judged.stations;
     let new = proposed(aside, channel, class, lat, lon);
-    let need = count_check(table, n, new);
+    let need = count_check(table, n, by, new);
     if rows.len() < need {
         return refused(NO_ROOM, need as u64);
     }
-    put_check(table, n, new, rows);
+    put_check(table, n, by, new, rows);
     need as u64
 }

@@ -126,7 +126,7 @@ fn unit_of(column: u64) -> u64 {
 }
 
 // R of two classes in a column, 0 past the columns.
-fn separation_in(class1: u64, class2: u64, column: u64) -> u64
+pub(crate) fn separation_in(class1: u64, class2: u64, column: u64) -> u64
     ensures { λ r. ⌜ r < 1000 ⌝ }
 {
     let unit = unit_of(column);
@@ -134,18 +134,6 @@ fn separation_in(class1: u64, class2: u64, column: u64) -> u64
         return 0;
     }
     relation(class1, class2) / unit % 1_000
-}
-
-// R of two channels and two classes, 0 where there is no requirement.
-pub fn separation(channel1: u64, class1: u64, channel2: u64, class2: u64) -> u64
-    ensures { λ r. ⌜ r < 1000 ⌝ }
-{
-    if channel1 <= 220 {
-        if channel2 <= 220 {
-            return 0;
-        }
-    }
-    separation_in(class1, class2, column(channel1, channel2))
 }
 
 // The square that S is held to for two classes at a column: R less half a km, in half kilometres, squared, and these of 5,000

@@ -5,3 +5,4 @@ pub mod Limits
 pub mod Shortcuts
 pub mod Boxes
 pub mod Meaning
+pub mod Standards

@@ -62,6 +62,14 @@ for-some x y f = go (exempt x y) refl
 pub for-most : (x y : ℕ) → (columnFor x y ≡ none → ⊥) → columnFor x y < 4
 for-most x y f = let e = for-open x y (for-some x y f) in rw e (column-most (gap x y) (λ q. f (e ∙ q)))
 
+-- one of the four columns, or the mark of none
+pub columns-only : (x y : ℕ) → columnFor x y ≤ none
+columns-only x y = go (ℕ-discrete (columnFor x y) none)
+  where
+    go : Dec (columnFor x y ≡ none) → columnFor x y ≤ none
+    go (yes e) = omega (arith, e)
+    go (no n) = omega (arith, for-most x y n)
+
 -- ---- S below the limit is D below R
 
 pub S-small : (p q : Place) → InRange p → InRange q → S (p .latitude) (p .longitude) (q .latitude) (q .longitude) < 2 ^ 64

@@ -7,6 +7,7 @@ use lib.ListN.{length, getD}
 use Rattle.ground.specs.Guard.{given}
 use Rattle.distance.specs.Bounds.{LeastScale}
 use Rattle.part73.specs.Columns.{column}
+use Rattle.part73.specs.Separations.{Separations}
 use Rattle.squares.specs.Squares.{limitOf, entry}
 use Rattle.spacing.specs.declared.Place.{Place}
 use Rattle.spacing.specs.declared.Reach.{Reach}
@@ -36,6 +37,16 @@ pub record LimitsAt (km : ℕ → ℕ → ℕ → ℕ) (p : Place) (limits : Lis
   pub scale : ℕ
   pub least : LeastScale (p .latitude) scale
   pub east : (b : ℕ) → b < 8 → getD limits (eastAt b) 0 ≡ eastOf scale (km (p .class) b 0)
+
+-- limits that are by a table of separations, whichever
+pub record Limited (km : ℕ → ℕ → ℕ → ℕ) (p : Place) (limits : List ℕ) : Type 0 where
+  pub table : Separations km
+  pub at : LimitsAt km p limits
+
+-- limits that are by some table of separations
+pub record ByTable (p : Place) (limits : List ℕ) : Type 0 where
+  pub km : ℕ → ℕ → ℕ → ℕ
+  pub limited : Limited km p limits
 
 -- the limits of a class so far as its row of the table of squares has them
 pub record FromRow (squares : List (List (List ℕ))) (class : ℕ) (out : List ℕ) : Type 0 where

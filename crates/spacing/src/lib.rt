@@ -1,10 +1,10 @@
 // The pair rule: the separation that applies to two stations, and whether they are short.
 ghost use mathlib.Core.Path.{_≡_};
-ghost use Prim.Native.Nat.{_<_};
+ghost use Prim.Native.Nat.{ℕ, _<_};
 ghost use Rattle.distance.specs.Distance.{S};
-ghost use Rattle.part73.specs.TableA.{tableA};
-ghost use Rattle.spacing.specs.Pair.{sited, exempt, columnFor, separation, short};
-ghost use Rattle.spacing.specs.Limits.{LimitsAt, Falling, Under, squaresOf};
+ghost use Rattle.part73.specs.Reading.{Tabled};
+ghost use Rattle.spacing.specs.Pair.{sited, exempt, columnFor, separation, shortBy};
+ghost use Rattle.spacing.specs.Limits.{Limited, Falling, Under, squaresOf};
 ghost use Rattle.spacing.specs.Reaching.{InRange, hits, Reaches, Clears};
 
 mod limiting;
@@ -15,6 +15,7 @@ pub use limiting::limits_by;
 pub use limiting::limits_of;
 use limiting::north_in;
 use limiting::square_in;
+use part73::Rows;
 pub use surroundings::box_around;
 
 // A class at a site.
@@ -56,8 +57,8 @@ pub fn square_between(p: Place, q: Place) -> u64
 // The latitudes alone, or the longitudes alone, put two stations so far apart that they are short on no channels; where they
 // do not, S is to be taken.
 pub fn apart(p: Place, limits: &Limits, q: Place) -> bool
-    requires { ⌜ (LimitsAt tableA p (now limits)) × ((InRange p) × (InRange q)) ⌝ }
-    ensures { λ r. ⌜ Clears tableA p q r ⌝ }
+    requires { ⌜ (InRange p) × (InRange q) ⌝ }
+    ensures { λ r. ⌜ ((km : ℕ → ℕ → ℕ → ℕ) → Limited km p (now (limits .entry)) → Clears km p q r) ⌝ }
 {
     let theirs = q.class;
     let lat = p.latitude;
@@ -74,8 +75,8 @@ pub fn apart(p: Place, limits: &Limits, q: Place) -> bool
 
 // How far along the channels two classes reach at S: in which columns it lies below the squares.
 pub fn reach_at(limits: &Limits, theirs: usize, s: u64) -> Reach
-    requires { ⌜ (theirs < 8) × (Falling (squaresOf (now limits) theirs)) ⌝ }
-    ensures { λ r. ⌜ Under (squaresOf (now (limits .entry)) theirs) s r ⌝ }
+    requires { ⌜ theirs < 8 ⌝ }
+    ensures { λ r. ⌜ (Falling (squaresOf (now (limits .entry)) theirs) → Under (squaresOf (now (limits .entry)) theirs) s r) ⌝ }
 {
     let co_channel = square_in(limits, theirs, 0);
     if co_channel <= s {
@@ -99,8 +100,8 @@ pub fn reach_at(limits: &Limits, theirs: usize, s: u64) -> Reach
 
 // How far along the channels a station at p and one at q reach.
 pub fn reach_of(p: Place, limits: &Limits, q: Place) -> Reach
-    requires { ⌜ (LimitsAt tableA p (now limits)) × ((InRange p) × (InRange q)) ⌝ }
-    ensures { λ r. ⌜ Reaches tableA p q r ⌝ }
+    requires { ⌜ (InRange p) × (InRange q) ⌝ }
+    ensures { λ r. ⌜ ((km : ℕ → ℕ → ℕ → ℕ) → Limited km p (now (limits .entry)) → Reaches km p q r) ⌝ }
 {
     let theirs = q.class;
     let s = square_between(p, q);
@@ -127,16 +128,16 @@ pub fn column_for(x: usize, y: usize) -> usize
     part73::column_of(part73::gap_of(x, y))
 }
 
-// R of two stations; 0 where none applies.
-pub fn separation_of(x: usize, a: usize, y: usize, b: usize) -> u16
+// R of two stations by the rows of a table; 0 where none applies.
+pub fn separation_of(rows: &Rows, x: usize, a: usize, y: usize, b: usize) -> u16
     requires { ⌜ (a < 8) × (b < 8) ⌝ }
-    ensures { λ r. ⌜ r ≡ separation tableA x a y b ⌝ }
+    ensures { λ r. ⌜ ((km : ℕ → ℕ → ℕ → ℕ) → Tabled km (now (rows .entry)) → r ≡ separation km x a y b) ⌝ }
 {
     let column = column_for(x, y);
     if column == 4 {
         return 0;
     }
-    part73::separation(a, b, column)
+    standards::separation(rows, a, b, column)
 }
 
 // Short at a difference of channels, by what is reached.
@@ -157,8 +158,8 @@ pub fn is_hit(r: Reach, d: usize) -> bool
 
 // Whether a station at p, on channel x, and one at q, on channel y, are short: far sites first, then the channels, then S.
 pub fn is_short(x: usize, p: Place, limits: &Limits, y: usize, q: Place) -> bool
-    requires { ⌜ (LimitsAt tableA p (now limits)) × ((InRange p) × (InRange q)) ⌝ }
-    ensures { λ r. ⌜ r ≡ short (sited p x) (sited q y) ⌝ }
+    requires { ⌜ (InRange p) × (InRange q) ⌝ }
+    ensures { λ r. ⌜ ((km : ℕ → ℕ → ℕ → ℕ) → Limited km p (now (limits .entry)) → r ≡ shortBy km (sited p x) (sited q y)) ⌝ }
 {
     if apart(p, limits, q) {
         return false;

@@ -3,7 +3,7 @@
 ghost use mathlib.Core.Path.{_≡_};
 ghost use Prim.Native.Nat.{_≤_, _<_};
 ghost use lib.ListN.{getD};
-ghost use Rattle.part73.specs.TableA.{tableA};
+ghost use Rattle.part73.specs.Standards.{chosen};
 ghost use Rattle.squares.specs.Squares.{squaredLimits};
 ghost use Rattle.spacing.specs.Limits.{eastOf, FromRow, SecondsAsked, secondsAt, LimitsAt, squareAt, northAt, eastAt};
 ghost use Rattle.spacing.specs.Reaching.{InRange};
@@ -82,15 +82,15 @@ fn seconds_at(separations: &[u16; 8], scale: u64, k: usize) -> u64
     seconds(separations[theirs], scale)
 }
 
-// The limits of a place by a table of squares that is lent.
-pub fn limits_by(squares: &Squares, p: Place) -> Limits
-    requires { ⌜ (now squares ≡ squaredLimits tableA) × (InRange p) ⌝ }
-    ensures { λ r. ⌜ LimitsAt tableA p r ⌝ }
+// The limits of a place by a standard, whose table of squares is lent.
+pub fn limits_by(squares: &Squares, standard: u32, p: Place) -> Limits
+    requires { ⌜ (now squares ≡ squaredLimits (chosen standard)) × (InRange p) ⌝ }
+    ensures { λ r. ⌜ LimitsAt (chosen standard) p r ⌝ }
 {
     let class = p.class;
     let lat = p.latitude;
     let scale = distance::least_scale(lat);
-    let separations = part73::co_channel_of(class);
+    let separations = standards::co_channel_of(standard, class);
     let mut out = from_row(squares, class);
     let mut k: usize = NORTH;
     while k < END {
@@ -101,10 +101,10 @@ pub fn limits_by(squares: &Squares, p: Place) -> Limits
 }
 
 // The limits of a place, for a question that makes limits once.
-pub fn limits_of(p: Place) -> Limits
+pub fn limits_of(standard: u32, p: Place) -> Limits
     requires { ⌜ InRange p ⌝ }
-    ensures { λ r. ⌜ LimitsAt tableA p r ⌝ }
+    ensures { λ r. ⌜ LimitsAt (chosen standard) p r ⌝ }
 {
-    let squares = squares::by_table_a();
-    limits_by(&squares, p)
+    let squares = standards::squares_by(standard);
+    limits_by(&squares, standard, p)
 }

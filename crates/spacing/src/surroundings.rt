@@ -1,6 +1,6 @@
 // The box around a site outside of which no station stands in the way of a class there.
-ghost use Rattle.part73.specs.TableA.{tableA};
-ghost use Rattle.spacing.specs.Limits.{LimitsAt};
+ghost use Prim.Native.Nat.{ℕ};
+ghost use Rattle.spacing.specs.Limits.{Limited, ByTable};
 ghost use Rattle.spacing.specs.Reaching.{InRange, Surrounds};
 use crate::Around;
 use crate::Limits;
@@ -12,8 +12,8 @@ use crate::limiting::north_in;
 const WIDEST: usize = 7;
 
 pub fn box_around(p: Place, limits: &Limits) -> Around
-    requires { ⌜ (LimitsAt tableA p (now limits)) × (InRange p) ⌝ }
-    ensures { λ r. ⌜ Surrounds tableA p r ⌝ }
+    requires { ⌜ (ByTable p (now limits)) × (InRange p) ⌝ }
+    ensures { λ r. ⌜ ((km : ℕ → ℕ → ℕ → ℕ) → Limited km p (now (limits .entry)) → Surrounds km p r) ⌝ }
 {
     let up = north_in(limits, WIDEST);
     let across = east_in(limits, WIDEST);

@@ -8,6 +8,7 @@ use lib.Dec.{eqb}
 use Rattle.ground.specs.Guard.{given}
 use Rattle.ground.specs.Lists.{some}
 use Rattle.wire.specs.Be.{Bytes}
+use Rattle.part73.specs.Standards.{chosen}
 use Rattle.stations.specs.Image.{then, stations, judged}
 use Rattle.stations.specs.Encode.{encode}
 use Rattle.stations.specs.Lists.{hasId, without}
@@ -20,8 +21,7 @@ use Rattle.stations.proofs.Parts.{valid-table, valid-without, valid-image}
 use Rattle.survey.specs.Ways.{studied}
 use Rattle.survey.proofs.Studied.{studied-without, studied-whole}
 use Rattle.desk.specs.Answers.{grant, onTable, onAsked}
-use Rattle.desk.specs.Asked.{askedFault}
-use Rattle.studies.specs.Studies.{termsAsked, asideFault, studyFault, study}
+use Rattle.studies.specs.Studies.{termsAsked, wantedFault, asideFault, studyFault, study}
 use Rattle.studies.specs.declared.Wanted.{Wanted}
 
 -- nothing is wrong with the id 0, nor with one that stands in the table
@@ -36,27 +36,27 @@ present-aside id ss h = rw (h, and-false (not (eqb id 0)))
 -- the same study, with nobody left aside
 abbrev pub whole : Wanted → Wanted
 whole w =
-    record { first = w .first; last = w .last; class = w .class; zone = w .zone; latitude = w .latitude; longitude = w .longitude; aside = 0 }
+    record { first = w .first; last = w .last; class = w .class; zone = w .zone; latitude = w .latitude; longitude = w .longitude; aside = 0; standard = w .standard }
 
--- where nothing is wrong with the id left aside, only 13 to 17 are left
-asked-only : (ss : List Station) (w : Wanted) → asideFault (w .aside) ss ≡ Sound → studyFault ss w ≡ askedFault (w .first) (w .last) (w .class) (w .zone) (w .latitude) (w .longitude)
+-- where nothing is wrong with the id left aside, only 13 to 16, 26 and 17 are left
+asked-only : (ss : List Station) (w : Wanted) → asideFault (w .aside) ss ≡ Sound → studyFault ss w ≡ wantedFault w
 unfolding studyFault
-asked-only ss w e = rw e (go (askedFault (w .first) (w .last) (w .class) (w .zone) (w .latitude) (w .longitude)))
+asked-only ss w e = rw e (go (wantedFault w))
   where
     go : (v : Verdict) → then v Sound ≡ v
     go Sound = refl
     go (Faulty f) = refl
 
-module _ (w : Wanted) (numbers : List Station → List ℕ) where
-  -- with the id 0 every station is studied, and nothing but 13 to 17 is refused
-  pub study-whole : (s : List ℕ) → study s (whole w) numbers ≡ onTable (judged s) (onAsked (askedFault (w .first) (w .last) (w .class) (w .zone) (w .latitude) (w .longitude)) (grant (numbers (stations s))))
-  unfolding study
+module _ (w : Wanted) (numbers : (ℕ → ℕ → ℕ → ℕ) → List Station → List ℕ) where
+  -- with the id 0 every station is studied, and nothing but 13 to 16, 26 and 17 is refused
+  pub study-whole : (s : List ℕ) → study s (whole w) numbers ≡ onTable (judged s) (onAsked (wantedFault w) (grant (numbers (chosen (w .standard)) (stations s))))
+  unfolding study wantedFault
   study-whole s = rw (asked-only (stations s) (whole w) (none-aside (stations s))) (go (judged s) refl)
     where
       v : Verdict
-      v = askedFault (w .first) (w .last) (w .class) (w .zone) (w .latitude) (w .longitude)
+      v = wantedFault w
 
-      go : (j : Judged) → judged s ≡ j → onTable j (onAsked v (grant (numbers (studied (termsAsked (whole w)) (stations s))))) ≡ onTable j (onAsked v (grant (numbers (stations s))))
+      go : (j : Judged) → judged s ≡ j → onTable j (onAsked v (grant (numbers (chosen (w .standard)) (studied (termsAsked (whole w)) (stations s))))) ≡ onTable j (onAsked v (grant (numbers (chosen (w .standard)) (stations s))))
       go (Refused f) e = refl
       go (Table n) e = rw (studied-whole s n e (termsAsked (whole w)) refl)
 

@@ -1,11 +1,12 @@
--- 02, R-1: a study, that is, a question about a table on terms of its own. Assumes nothing.
+-- 02, R-1, R-6: a study, that is, a question about a table on terms of its own. Assumes nothing.
 use mathlib.Core.Bool.{not, _&&_}
 use mathlib.Core.List.{List}
 use Prim.Native.Nat.{ℕ}
 use lib.Dec.{eqb}
 use Rattle.ground.specs.Guard.{given}
 use Rattle.ground.specs.Lists.{some}
-use Rattle.refusals.specs.Faults.{IdAbsent}
+use Rattle.part73.specs.Standards.{isStandard, chosen}
+use Rattle.refusals.specs.Faults.{IdAbsent, StandardUnknown}
 use Rattle.spacing.specs.Pair.{Assignment, sited}
 use Rattle.spacing.specs.declared.Place.{Place}
 use Rattle.stations.specs.Image.{faulty, then, stations, judged}
@@ -17,7 +18,7 @@ use Rattle.survey.specs.Ways.{studied}
 use Rattle.marking.specs.declared.Channels.{Channels}
 use Rattle.survey.specs.declared.Terms.{Terms}
 use Rattle.desk.specs.Answers.{Outcome, grant, onTable, onAsked}
-use Rattle.desk.specs.Asked.{askedFault}
+use Rattle.desk.specs.Asked.{kindFault, siteFault}
 use Rattle.studies.specs.declared.Wanted.{Wanted}
 
 -- ---- what is wanted
@@ -35,25 +36,35 @@ channelsAsked w = record { first = w .first; last = w .last }
 
 -- the terms
 abbrev pub termsAsked : Wanted → Terms
-termsAsked w = record { aside = w .aside }
+termsAsked w = record { aside = w .aside; standard = w .standard }
 
 -- ---- what is wrong with it
+
+-- 26 for a standard not 1 or 2
+unfoldable pub standardFault : ℕ → Verdict
+standardFault standard = given (not (isStandard standard)) (faulty StandardUnknown) Sound
+
+-- whatever the table: the first that applies of 13 to 16, 26 and 17
+unfoldable pub wantedFault : Wanted → Verdict
+wantedFault w =
+    then (kindFault (w .first) (w .last) (w .class) (w .zone))
+    (then (standardFault (w .standard))
+    (siteFault (w .latitude) (w .longitude)))
 
 -- 23 if a nonzero id is absent
 unfoldable pub asideFault : ℕ → List Station → Verdict
 asideFault id ss = given (not (eqb id 0) && not (some (hasId id) ss)) (faulty IdAbsent) Sound
 
--- the first that applies of 13 to 17 and 23
+-- the first that applies of 13 to 16, 26, 17 and 23
 unfoldable pub studyFault : List Station → Wanted → Verdict
-studyFault ss w =
-    then (askedFault (w .first) (w .last) (w .class) (w .zone) (w .latitude) (w .longitude))
-    (asideFault (w .aside) ss)
+studyFault ss w = then (wantedFault w) (asideFault (w .aside) ss)
 
 -- ---- the outcome
 
--- the table is judged whole, then what is wanted; granted are the numbers of the stations that are studied
-unfoldable pub study : List ℕ → Wanted → (List Station → List ℕ) → Outcome
+-- the table is judged whole, then what is wanted; granted are the numbers, by the chosen table of separations, of the stations that
+-- are studied
+unfoldable pub study : List ℕ → Wanted → ((ℕ → ℕ → ℕ → ℕ) → List Station → List ℕ) → Outcome
 study s w numbers =
     onTable (judged s)
     (onAsked (studyFault (stations s) w)
-    (grant (numbers (studied (termsAsked w) (stations s)))))
+    (grant (numbers (chosen (w .standard)) (studied (termsAsked w) (stations s)))))

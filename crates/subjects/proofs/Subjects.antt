@@ -35,4 +35,4 @@ pub first-bytes : (m : ℕ) → afterTerms ≤ m → (input : List ℕ) → m �
 unfolding subjectOf given
 first-bytes m g input h =
     let a : Alike m (take m input) input = record { at = λ j l. getD-take m input j 0 l } in
-    rw (le-ltb (length (take m input)) 5 (omega (arith, length-take-le m input h)), le-ltb (length input) 5 (omega arith), be-alike a 1 0 (omega arith), be-alike a 4 1 (omega arith))
+    rw (le-ltb (length (take m input)) afterTerms (omega (arith, length-take-le m input h)), le-ltb (length input) afterTerms (omega arith), be-alike a 1 0 (omega arith), be-alike a 4 1 (omega arith), be-alike a 1 5 (omega arith))

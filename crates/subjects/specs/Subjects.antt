@@ -1,4 +1,4 @@
--- 02, R-1: what an input of `fm_study` asks, and the terms of a study in a program's input. Assumes nothing.
+-- 02, R-1, R-6: what an input of `fm_study` asks, and the terms of a study in a program's input. Assumes nothing.
 use mathlib.Core.List.{List}
 use Prim.Native.Nat.{ℕ, _+_}
 use lib.Dec.{eqb, ltb}
@@ -9,13 +9,13 @@ use Rattle.survey.specs.declared.Terms.{Terms}
 use Rattle.subjects.specs.declared.Subject.{Subject}
 use Rattle.subjects.specs.declared.Subject.the-variants.{Check, Arrange, Distance}
 
--- the terms from a place on: id 32
+-- the terms from a place on: id 32, standard 8
 abbrev pub termsAt : List ℕ → ℕ → Terms
-termsAt s at = record { aside = be 4 s at }
+termsAt s at = record { aside = be 4 s at; standard = be 1 s (at + 4) }
 
 -- how many bytes terms take, and letter and terms
 abbrev pub termsLength : ℕ
-termsLength = 4
+termsLength = 5
 
 abbrev pub afterTerms : ℕ
 afterTerms = 1 + termsLength

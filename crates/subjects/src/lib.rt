@@ -11,7 +11,7 @@ const CHECK: u32 = 99;
 const ARRANGE: u32 = 97;
 
 // How many bytes terms take, and a letter and terms.
-pub const TERMS: usize = 4;
+pub const TERMS: usize = 5;
 
 pub const AFTER_TERMS: usize = 1 + TERMS;
 
@@ -22,13 +22,14 @@ pub enum Subject {
     Distance,
 }
 
-// The terms of a study, from a place on: the id left aside.
+// The terms of a study, from a place on: the id left aside, and the standard.
 pub fn terms_at(input: &[u8], at: usize) -> Terms
     requires { ⌜ at + termsLength ≤ length (now input) ⌝ }
     ensures { λ r. ⌜ r ≡ termsAt (now (input .entry)) at ⌝ }
 {
     let aside = wire::get32(input, at);
-    Terms { aside }
+    let standard = wire::get8(input, at + 4);
+    Terms { aside, standard }
 }
 
 // What a study is of, by its letter: a question about a table, for which what the program of 01 reads follows the terms, or a

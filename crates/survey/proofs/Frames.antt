@@ -4,7 +4,6 @@ use mathlib.Core.Bool.{Bool, false}
 use mathlib.Core.List.{List}
 use Prim.Native.Nat.{ℕ, _≤_, _<_}
 use native.Mathlib.Omega.{arith}
-use Rattle.part73.specs.TableA.{tableA}
 use Rattle.spacing.specs.Pair.{sited}
 use Rattle.spacing.specs.declared.Place.{Place}
 use Rattle.framing.specs.Frames.{Encloses}
@@ -18,11 +17,11 @@ use Rattle.survey.proofs.Records.{known-at}
 use Rattle.marking.proofs.Marks.{marked-skip}
 use Rattle.survey.proofs.Shorts.{blocks-spaced}
 
-module _ (s : List ℕ) (e : Accepted s) {p : Place} {f : Frame} (v : Encloses tableA p f) {from to : ℕ} (k : Skipped s f from to) where
-  pub unframed-clear : (j : ℕ) → from ≤ j → j < to → (m : ℕ) → near tableA (sited p m) (stationAt s j) ≡ false
+module _ (s : List ℕ) (e : Accepted s) {km : ℕ → ℕ → ℕ → ℕ} {p : Place} {f : Frame} (v : Encloses km p f) {from to : ℕ} (k : Skipped s f from to) where
+  pub unframed-clear : (j : ℕ) → from ≤ j → j < to → (m : ℕ) → near km (sited p m) (stationAt s j) ≡ false
   unframed-clear j l u m =
       v .clear (placeOf (stationAt s j)) (known-at s e j (omega (arith, k .upto)) .placed) (k .each-one j l u) m (stationAt s j .channel)
 
   -- so the marks stay as they are
-  pub marked-on : (look : Station → Bool) {first last : ℕ} {marks : List ℕ} → Marked (λ m j. blocks tableA look s (sited p m) j) first last from marks → Marked (λ m j. blocks tableA look s (sited p m) j) first last to marks
-  marked-on look = marked-skip (k .on) (λ j l u m _ _. blocks-spaced look s (sited p m) j (unframed-clear j l u m))
+  pub marked-on : (look : Station → Bool) {first last : ℕ} {marks : List ℕ} → Marked (λ m j. blocks km look s (sited p m) j) first last from marks → Marked (λ m j. blocks km look s (sited p m) j) first last to marks
+  marked-on look = marked-skip (k .on) (λ j l u m _ _. blocks-spaced km look s (sited p m) j (unframed-clear j l u m))

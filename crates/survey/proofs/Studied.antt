@@ -56,6 +56,10 @@ module _ (s : List ℕ) (n : ℕ) (e : judged s ≡ Table n) where
   unfolding studied
   studied-ascend t = ascending-keep (looked t) (stations s) (ids-ascend s n e)
 
+  -- each is of one of the eight classes
+  pub studied-known : (t : Terms) (x : Station) → x ∈ studied t (stations s) → x .class < 8
+  studied-known t x m = omega (arith, good s n e .each x (studied-exactly t (stations s) x .0 m .0) .class)
+
   -- with the id 0 they are all, for no record has it
   pub studied-whole : (t : Terms) → t .aside ≡ 0 → studied t (stations s) ≡ stations s
   unfolding studied looked

@@ -6,7 +6,6 @@ use Prim.Native.Nat.{ℕ, _-_, _≤_}
 use lib.ListN.{length}
 use Rattle.ground.specs.Passing.{Passing}
 use Rattle.part73.specs.Channels.{channelCount}
-use Rattle.part73.specs.TableA.{tableA}
 use Rattle.spacing.specs.Pair.{Assignment}
 use Rattle.spacing.specs.Limits.{LimitsAt}
 use Rattle.spacing.specs.Reaching.{InRange}
@@ -17,7 +16,8 @@ use Rattle.stations.specs.Image.{stationAt, count, Accepted}
 use Rattle.stations.specs.declared.Station.{Station}
 use Rattle.marking.specs.Marks.{Asked}
 use Rattle.marking.specs.declared.Channels.{Channels}
-use Rattle.survey.specs.Ways.{near}
+use Rattle.survey.specs.Ways.{chosenFor, near}
+use Rattle.survey.specs.declared.Terms.{Terms}
 
 -- the record at a position is looked at, and p is short to it
 unfoldable pub blocks : (ℕ → ℕ → ℕ → ℕ) → (Station → Bool) → List ℕ → Assignment → ℕ → Bool
@@ -38,14 +38,14 @@ pub record Onward (s : List ℕ) (from stop n : ℕ) : Type 0 where
   pub turns : stop ≡ n - 3
   pub all : n ≡ count s
 
--- a walk over an accepted table for a class at a site, with its limits
-pub record Walk (s : List ℕ) (p : Place) (limits : List ℕ) : Type 0 where
+-- a walk over an accepted table on terms, for a class at a site, with its limits
+pub record Walk (s : List ℕ) (t : Terms) (p : Place) (limits : List ℕ) : Type 0 where
   pub accepted : Accepted s
   pub placed : InRange p
-  pub held : LimitsAt tableA p limits
+  pub held : LimitsAt (chosenFor t) p limits
 
 -- one that marks channels
-pub record Survey (s : List ℕ) (p : Place) (limits : List ℕ) (c : Channels) (marks : List ℕ) : Type 0 where
-  pub walk : Walk s p limits
+pub record Survey (s : List ℕ) (t : Terms) (p : Place) (limits : List ℕ) (c : Channels) (marks : List ℕ) : Type 0 where
+  pub walk : Walk s t p limits
   pub asked : Asked c
   pub long : length marks ≡ channelCount

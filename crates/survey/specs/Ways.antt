@@ -3,6 +3,7 @@ use mathlib.Core.Bool.{Bool, not}
 use mathlib.Core.List.{List}
 use Prim.Native.Nat.{ℕ}
 use Rattle.ground.specs.Lists.{keep, every}
+use Rattle.part73.specs.Standards.{chosen}
 use Rattle.spacing.specs.Pair.{Assignment, sited, shortBy}
 use Rattle.spacing.specs.declared.Place.{Place}
 use Rattle.stations.specs.Lists.{hasId}
@@ -28,6 +29,10 @@ looked t r = not (hasId (t .aside) r)
 -- the stations that it studies
 unfoldable pub studied : Terms → List Station → List Station
 studied t ss = keep (looked t) ss
+
+-- 02, R-6: the table of separations that a question goes by, by its terms: the one that its standard chooses
+abbrev pub chosenFor : Terms → ℕ → ℕ → ℕ → ℕ
+chosenFor t = chosen (t .standard)
 
 -- what is proposed, p, is short to a station, by a table of separations
 abbrev pub near : (ℕ → ℕ → ℕ → ℕ) → Assignment → Station → Bool

@@ -2,10 +2,9 @@
 // one walk over the table.
 ghost use mathlib.Core.Path.{_≡_};
 ghost use Prim.Native.Nat.{_<_};
-ghost use Rattle.part73.specs.TableA.{tableA};
 ghost use Rattle.spacing.specs.Pair.{sited};
 ghost use Rattle.stations.specs.Image.{count};
-ghost use Rattle.survey.specs.Ways.{placeOf, looked};
+ghost use Rattle.survey.specs.Ways.{placeOf, looked, chosenFor};
 ghost use Rattle.marking.specs.Marks.{Marked, Struck};
 ghost use Rattle.survey.specs.Walking.{blocks, Walk, Survey};
 
@@ -20,9 +19,11 @@ use spacing::Limits;
 use spacing::Place;
 use stations::Station;
 
-// What a question goes by beside class and site: the id of the record that it leaves aside, 0 for none.
+// What a question goes by beside class and site: the id of the record that it leaves aside, 0 for none, and the standard, by which
+// the separations are chosen.
 pub struct Terms {
     pub aside: u32,
+    pub standard: u32,
 }
 
 // The class and site of a station.
@@ -52,8 +53,8 @@ pub fn short_at(
     place: Place,
     limits: &Limits,
 ) -> bool
-    requires { ⌜ (Walk (now table) place (now limits)) × (i < count (now table)) ⌝ }
-    ensures { λ r. ⌜ r ≡ blocks tableA (looked terms) (now (table .entry)) (sited place channel) i ⌝ }
+    requires { ⌜ (Walk (now table) terms place (now limits)) × (i < count (now table)) ⌝ }
+    ensures { λ r. ⌜ r ≡ blocks (chosenFor terms) (looked terms) (now (table .entry)) (sited place channel) i ⌝ }
 {
     let r = stations::station_at(table, i);
     let c = r.channel as usize;
@@ -74,8 +75,8 @@ fn look_at(
     channels: Channels,
     marks: &mut [u16; part73::CHANNEL_COUNT],
 )
-    requires { ⌜ (Survey (now table) place (now limits) channels (now marks)) × (i < count (now table)) ⌝ }
-    ensures { λ _. ⌜ Struck (λ m. blocks tableA (looked terms) (now (table .entry)) (sited place m) i) (channels .first) (channels .last) i (now (marks .entry)) (now (marks .exit)) ⌝ }
+    requires { ⌜ (Survey (now table) terms place (now limits) channels (now marks)) × (i < count (now table)) ⌝ }
+    ensures { λ _. ⌜ Struck (λ m. blocks (chosenFor terms) (looked terms) (now (table .entry)) (sited place m) i) (channels .first) (channels .last) i (now (marks .entry)) (now (marks .exit)) ⌝ }
 {
     let r = stations::station_at(table, i);
     let c = r.channel as usize;
@@ -107,8 +108,8 @@ pub fn survey(
     channels: Channels,
     marks: &mut [u16; part73::CHANNEL_COUNT],
 )
-    requires { ⌜ Survey (now table) place (now limits) channels (now marks) ⌝ }
-    ensures { λ _. ⌜ Marked (λ m j. blocks tableA (looked terms) (now (table .entry)) (sited place m) j) (channels .first) (channels .last) (count (now (table .entry))) (now (marks .exit)) ⌝ }
+    requires { ⌜ Survey (now table) terms place (now limits) channels (now marks) ⌝ }
+    ensures { λ _. ⌜ Marked (λ m j. blocks (chosenFor terms) (looked terms) (now (table .entry)) (sited place m) j) (channels .first) (channels .last) (count (now (table .entry))) (now (marks .exit)) ⌝ }
 {
     let frame = framing::frame_around(place, limits);
     wipe(marks);

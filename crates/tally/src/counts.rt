@@ -9,26 +9,29 @@ use cases::WITHDRAW;
 use cases::mixed;
 ghost use Prim.Native.Nat.{_+_, _≤_, _<_};
 
-// The counts, of 26 numbers (0 where it is granted) for each of eight questions; behind them those of the reasons, clear and by
-// column; behind these those of the granted images, by version; those of the questions across the 180th meridian; and last the
-// digest.
-pub type Notes = [u64; 226];
+// The counts, of 27 numbers (0 where it is granted) for each of eight questions; behind them those of the reasons, clear and by
+// column; behind these those of the granted images, by version; those of the questions across the 180th meridian; those by the
+// lesser table; and last the digest.
+pub type Notes = [u64; 240];
 
 // Where the counts of the reasons start.
-pub(crate) const WAYS: usize = 208;
+pub(crate) const WAYS: usize = 216;
 
 // Where the counts of the granted images start.
-pub(crate) const IMAGES: usize = 213;
+pub(crate) const IMAGES: usize = 221;
 
 // Where the counts of the questions across the 180th meridian start.
-pub(crate) const MERIDIAN: usize = 217;
+pub(crate) const MERIDIAN: usize = 225;
+
+// Where the counts of the studies by the lesser table start.
+pub(crate) const LESSER: usize = 233;
 
 // Where the digest stands.
-const DIGEST: usize = 225;
+const DIGEST: usize = 239;
 
 // Notes before the first question.
 pub fn fresh_notes() -> Notes {
-    let mut notes = [0u64; 226];
+    let mut notes = [0u64; 240];
     notes[DIGEST] = SEED;
     notes
 }
@@ -52,14 +55,14 @@ pub(crate) fn extra_of(answer: u64) -> u64
 
 // Where the count of a question's answers with a number stands.
 fn place(kind: u32, number: u64) -> usize
-    ensures { λ r. ⌜ r < 208 ⌝ }
+    ensures { λ r. ⌜ r < 216 ⌝ }
 {
-    ((kind % 8) * 26) as usize + (number % 26) as usize
+    ((kind % 8) * 27) as usize + (number % 27) as usize
 }
 
 // Adds one to the count at a place.
 pub(crate) fn count_one(notes: &mut Notes, at: usize)
-    requires { ⌜ at < 226 ⌝ }
+    requires { ⌜ at < 240 ⌝ }
 {
     notes[at] = std::num::wrapping_add_u64(notes[at], 1);
 }
@@ -85,6 +88,7 @@ fn can_refuse(kind: u32, number: u64) -> bool {
         22 => kind != REASON,
         23 => kind != ADD,
         25 => kind == MOVE,
+        26 => MOVE < kind,
         _ => false,
     }
 }
@@ -146,7 +150,7 @@ fn print_line(notes: &Notes, number: u64) -> u64
 
 // Writes the counts from a place up to another, and gives how many of them are 0.
 fn print_part(notes: &Notes, from: usize, to: usize) -> u64
-    requires { ⌜ (from ≤ to) × (to ≤ 226) ⌝ }
+    requires { ⌜ (from ≤ to) × (to ≤ 240) ⌝ }
     ensures { λ r. ⌜ r + from ≤ to ⌝ }
 {
     let mut missing: u64 = 0;
@@ -159,10 +163,10 @@ fn print_part(notes: &Notes, from: usize, to: usize) -> u64
     missing
 }
 
-// Writes the counts of the reasons, of the granted images and of the questions across the 180th meridian, and gives how many of
-// these ways never came.
+// Writes the counts of the reasons, of the granted images, of the questions across the 180th meridian and by the lesser table, and
+// gives how many of these ways never came.
 fn print_ways(notes: &Notes) -> u64
-    ensures { λ r. ⌜ r ≤ 17 ⌝ }
+    ensures { λ r. ⌜ r ≤ 23 ⌝ }
 {
     io::write_all(1, b"reason: clear, and blocked by column:");
     let reasons = print_part(notes, WAYS, IMAGES);
@@ -172,17 +176,22 @@ fn print_ways(notes: &Notes) -> u64
     );
     let images = print_part(notes, IMAGES, MERIDIAN);
     io::write_all(1, b"questions across the 180th meridian:");
-    let across = print_part(notes, MERIDIAN, DIGEST);
-    reasons + images + across
+    let across = print_part(notes, MERIDIAN, LESSER);
+    io::write_all(
+        1,
+        b"check, arrange and reason by the lesser table, and those that Table A answers with another count or station:",
+    );
+    let lesser = print_part(notes, LESSER, DIGEST);
+    reasons + images + across + lesser
 }
 
 // Writes the counts number by number, and gives how many of the possible answers never came.
 fn print_lines(notes: &Notes) -> u64
-    ensures { λ r. ⌜ r ≤ 208 ⌝ }
+    ensures { λ r. ⌜ r ≤ 216 ⌝ }
 {
     let mut missing: u64 = 0;
     let mut number: u64 = 0;
-    while number < 26 {
+    while number < 27 {
         missing += print_line(notes, number);
         number += 1;
     }

@@ -1,6 +1,7 @@
 // The answers of `fm_cases` compared, counted by question and number and mixed into a digest, and the first difference shown.
 mod changed;
 mod counts;
+mod lesser;
 mod likeness;
 mod meridian;
 mod room;
@@ -13,6 +14,7 @@ pub use counts::Notes;
 pub use counts::fresh_notes;
 pub use counts::note;
 pub use counts::print_counts;
+pub use lesser::note_lesser;
 pub use likeness::alike_bytes;
 pub use likeness::alike_rows;
 pub use likeness::same;

@@ -29,6 +29,7 @@ fn print_question(q: Question) {
     let numbers = [
         q.kind,
         q.id,
+        q.standard,
         q.channel,
         q.last,
         q.class,
@@ -40,7 +41,7 @@ fn print_question(q: Question) {
     ];
     io::write_all(
         1,
-        b"difference in question (read 0, distance 1, add 2, withdraw 3, move 4, check 5, arrange 6, reason 7), id, channel, last, class, zone, two sites:",
+        b"difference in question (read 0, distance 1, add 2, withdraw 3, move 4, check 5, arrange 6, reason 7), id, standard, channel, last, class, zone, two sites:",
     );
     print_numbers(&numbers);
 }

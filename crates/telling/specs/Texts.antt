@@ -1,4 +1,4 @@
--- 01, The programs; 02, R-2: the text of what is granted, as bytes. Assumes nothing.
+-- 01, The programs; 02, R-2, R-6: the text of what is granted, as bytes. Assumes nothing.
 use mathlib.Core.List.{List, [], _∷_, _++_}
 use Prim.Native.Nat.{ℕ, _/_}
 use lib.ListN.{length}
@@ -18,10 +18,10 @@ linesText (a ∷ b ∷ c ∷ vs) = rowLine a b c ++ linesText vs
 unfoldable pub shortText : List ℕ → List ℕ
 shortText vs = shortLine (length vs / 3) ++ linesText vs
 
--- `clear` where there is no number, else `id D R column`
-abbrev pub reasonText : List ℕ → List ℕ
-reasonText [] = clearLine
-reasonText (a ∷ vs) = numbersLine (a ∷ vs)
+-- `clear` where there is no number, else `id D R column`, and after the column the standard that was asked for
+abbrev pub reasonText : ℕ → List ℕ → List ℕ
+reasonText standard [] = clearLine
+reasonText standard (a ∷ vs) = numbersLine ((a ∷ vs) ++ (standard ∷ []))
 
 -- an image is its own text
 abbrev pub imageText : List ℕ → List ℕ

@@ -133,10 +133,10 @@ pub fn tell_distance(text: &mut [u8], answer: Answer, mark: &mut usize) -> bool
     }
 }
 
-// The answer to the question for the reason.
-pub fn tell_reason(text: &mut [u8], why: Why, mark: &mut usize) -> bool
-    requires { ⌜ 44 ≤ length (now text) ⌝ }
-    ensures { λ r. ⌜ Tells (printed reasonText (outcomeOf why)) (now (mark .entry)) (now (mark .exit)) r ⌝ }
+// The answer to the question for the reason, asked by a standard.
+pub fn tell_reason(text: &mut [u8], why: Why, standard: u32, mark: &mut usize) -> bool
+    requires { ⌜ 55 ≤ length (now text) ⌝ }
+    ensures { λ r. ⌜ Tells (printed (reasonText standard) (outcomeOf why)) (now (mark .entry)) (now (mark .exit)) r ⌝ }
 {
     match why {
         Why::Clear => {
@@ -144,7 +144,7 @@ pub fn tell_reason(text: &mut [u8], why: Why, mark: &mut usize) -> bool
             hand(text, end, mark)
         }
         Why::Blocked(n) => {
-            let end = put_reason(text, 0, n.id, n.distance, n.separation, n.column);
+            let end = put_reason(text, 0, n.id, n.distance, n.separation, n.column, standard);
             hand(text, end, mark)
         }
         Why::Refused(refusal) => tell_refusal(text, refusal, mark),

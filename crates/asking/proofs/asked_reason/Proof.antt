@@ -46,8 +46,8 @@ returns-2 c =
     let t = p .before in
     let s = t .before .before .before in
     let h = now (s .args .input) in
-    rw (le-ltb (length h) 16 (omega (arith, t .before .if1 .left)))
-    (rw (rest 16 h, p .proposal .ensures, t .terms-at .ensures) at (c .answer .ensures))
+    rw (le-ltb (length h) 17 (omega (arith, t .before .if1 .left)))
+    (rw (rest 17 h, p .proposal .ensures, t .terms-at .ensures) at (c .answer .ensures))
 
 pub asked-reason-spec : {M : Type 1} → statement M
 asked-reason-spec =

@@ -69,17 +69,17 @@ enum-told-2 : tie.Need-enum-told-2
 enum-told-2 c = search needs
 
 cast-t15 : tie.Need-cast-t15
-cast-t15 c = omega (arith, good c .high, good c .low, good c .order)
+cast-t15 c = omega (arith, good c .kind .high, good c .kind .low, good c .kind .order)
 
 cast-t16 : tie.Need-cast-t16
-cast-t16 c = omega (arith, good c .fits .known)
+cast-t16 c = omega (arith, good c .kind .known)
 
 enter-requires : tie.Need-enter-requires
 enter-requires c κs =
     let e = c .before in
     let k = good e in
     simp (north (e .before .before), east (e .before .before))
-    (record { accepted = is-accepted _ _ (told (e .before .before .before .before .before)); asked = record { low = k .low; high = k .high }; placed = record { known = k .fits .known; placed = k .fits .placed } })
+    (record { accepted = is-accepted _ _ (told (e .before .before .before .before .before)); asked = record { low = k .kind .low; high = k .kind .high }; placed = record { known = k .kind .known; placed = k .placed } })
 
 same-length : tie.Need-same-length
 same-length c = search needs

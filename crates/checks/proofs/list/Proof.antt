@@ -7,12 +7,11 @@ use lib.ListN.{length}
 use denote.Ref.{now}
 use borrow.Author.Needs.{needs}
 use Rattle.ground.specs.Rows.{Row, flat}
-use Rattle.part73.specs.TableA.{tableA}
 use Rattle.spacing.specs.Pair.{sited}
 use Rattle.versions.specs.Version.{limit}
 use Rattle.versions.proofs.Versions.{limit-small}
 use Rattle.stations.specs.Image.{stationAt, stations}
-use Rattle.survey.specs.Ways.{studied}
+use Rattle.survey.specs.Ways.{studied, chosenFor}
 use Rattle.desk.proofs.Answers.{does-not-fit, written}
 use Rattle.checks.specs.Check.{rowOf, rowsFor}
 use Rattle.nearby.proofs.Noted.{noted-few, noted-at}
@@ -20,12 +19,12 @@ use Rattle.checks.proofs.Listing.{rows-noted, length-rows}
 use Rattle.checks.proofs.list.Statement.{statement}
 use Rattle.checks.proofs.list.Tie as tie
 
-need : (c : tie.After-note-short) → let s = c .before .before .before .before in length (rowsFor (sited (s .args .place) (s .args .channel)) (studied (s .args .terms) (stations (now (s .args .table))))) ≡ 3 * c .note-short .result
+need : (c : tie.After-note-short) → let s = c .before .before .before .before in length (rowsFor (sited (s .args .place) (s .args .channel)) (chosenFor (s .args .terms)) (studied (s .args .terms) (stations (now (s .args .table))))) ≡ 3 * c .note-short .result
 need c =
     let s = c .before .before .before .before in
     let w = c .note-short .ensures in
     ap (λ (rs : List Row). length (flat rs)) (sym (rows-noted _ (s .pre .accepted) (s .args .terms) (sited (s .args .place) (s .args .channel)) w))
-    ∙ length-rows (λ j. rowOf tableA (sited (s .args .place) (s .args .channel)) (stationAt (now (s .args .table)) j)) _ (c .note-short .result) (omega (arith, w .long, noted-few w))
+    ∙ length-rows (λ j. rowOf (chosenFor (s .args .terms)) (sited (s .args .place) (s .args .channel)) (stationAt (now (s .args .table)) j)) _ (c .note-short .result) (omega (arith, w .long, noted-few w))
 
 note-short-requires : tie.Need-note-short-requires
 unfolding limit

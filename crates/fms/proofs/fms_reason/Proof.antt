@@ -17,7 +17,7 @@ put-why-requires : tie.Need-put-why-requires
 put-why-requires c κs = search needs
 
 -- what is answered
-answers : (c : tie.After-answer) → let s = c .before .before in outcomeOf (c .answer .result) ≡ reasonedFor (now (s .args .table)) (proposal (s .args .channel) (s .args .class) (s .args .zone) (s .args .lat) (s .args .lon) (s .args .aside))
+answers : (c : tie.After-answer) → let s = c .before .before in outcomeOf (c .answer .result) ≡ reasonedFor (now (s .args .table)) (proposal (s .args .channel) (s .args .class) (s .args .zone) (s .args .lat) (s .args .lon) (s .args .aside) (s .args .standard))
 answers c = let s = c .before .before in simp (toZ-ofZ (s .fits .lat), toZ-ofZ (s .fits .lon)) at (c .answer .ensures)
 
 locate-requires : tie.Need-locate-requires

@@ -9,6 +9,9 @@ use Rattle.lines.proofs.put_reason.Tie as tie
 put-number-requires : tie.Need-put-number-requires
 put-number-requires c κs = search needs
 
+put-number-requires-2 : tie.Need-put-number-requires-2
+put-number-requires-2 c κs = search needs
+
 put-numbers-requires : tie.Need-put-numbers-requires
 put-numbers-requires c κs = search needs
 
@@ -17,7 +20,9 @@ same-length c = search needs
 
 returns : tie.Need-returns
 unfolding rowLine numbersLine
-returns c = (both (c .before .before .before .before .before .before .put-number .ensures .0) (c .before .before .put-numbers .ensures .0), omega arith)
+returns c =
+    let rest = c .before .before .before .before .before .before in
+    (both (rest .before .before .before .before .put-number .ensures .0) (both (rest .put-number2 .ensures .0) (c .before .before .put-numbers .ensures .0)), omega arith)
 
 pub put-reason-spec : {M : Type 1} → statement M
-put-reason-spec = tie.close (tie.spec put-number-requires put-numbers-requires same-length returns)
+put-reason-spec = tie.close (tie.spec put-number-requires put-number-requires-2 put-numbers-requires same-length returns)

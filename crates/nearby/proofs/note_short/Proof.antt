@@ -5,13 +5,12 @@ use mathlib.Core.List.{List}
 use Prim.Native.Nat.{ℕ, _-_, _≤_, _<_}
 use native.Mathlib.Omega.{arith}
 use denote.Ref.{now}
-use Rattle.part73.specs.TableA.{tableA}
 use Rattle.spacing.specs.Pair.{Assignment, sited}
 use Rattle.versions.specs.Version.{limit}
 use Rattle.stations.specs.Image.{count, Accepted}
 use Rattle.stations.specs.declared.Station.{Station}
 use Rattle.stations.proofs.Table.{whole}
-use Rattle.survey.specs.Ways.{looked}
+use Rattle.survey.specs.Ways.{looked, chosenFor}
 use Rattle.survey.specs.Walking.{blocks}
 use Rattle.survey.proofs.Records.{few, header-room}
 use Rattle.nearby.specs.Positions.{shortPositions, Search, NextShort}
@@ -20,25 +19,25 @@ use Rattle.nearby.proofs.note_short.Statement.{statement}
 use Rattle.nearby.proofs.note_short.Tie as tie
 
 -- what is noted of the records before i, and that the one at i is looked at and short
-pub record Finding (look : Station → Bool) (s : List ℕ) (p : Assignment) (hits : List ℕ) (k i : ℕ) : Type 0 where
-  pub noted : Noting (blocks tableA look s p) (shortPositions tableA look s p) (count s) hits k i
-  pub found : i < count s → blocks tableA look s p i ≡ true
+pub record Finding (km : ℕ → ℕ → ℕ → ℕ) (look : Station → Bool) (s : List ℕ) (p : Assignment) (hits : List ℕ) (k i : ℕ) : Type 0 where
+  pub noted : Noting (blocks km look s p) (shortPositions km look s p) (count s) hits k i
+  pub found : i < count s → blocks km look s p i ≡ true
 
 abbrev Inv-loop : tie.InvT-loop
-Inv-loop table terms channel place hits₀ n limits free k₀ i₀ hits k i = Finding (looked terms) table (sited place channel) hits k i
+Inv-loop table terms channel place hits₀ n limits free k₀ i₀ hits k i = Finding (chosenFor terms) (looked terms) table (sited place channel) hits k i
 
 abbrev μ-loop : tie.MeasureT-loop
 μ-loop table terms channel place hits₀ n limits free k₀ i₀ hits k i = n - i
 
 -- the next one
-on : {look : Station → Bool} {s : List ℕ} {p : Assignment} {hits : List ℕ} {k i to : ℕ} → NextShort look s p i to → Noting (blocks tableA look s p) (shortPositions tableA look s p) (count s) hits k i → Finding look s p hits k to
+on : {km : ℕ → ℕ → ℕ → ℕ} {look : Station → Bool} {s : List ℕ} {p : Assignment} {hits : List ℕ} {k i to : ℕ} → NextShort km look s p i to → Noting (blocks km look s p) (shortPositions km look s p) (count s) hits k i → Finding km look s p hits k to
 on {to} w v = record { noted = note-skip to (w .passed .on) (w .passed .upto) (w .passed .each-one) v; found = w .short }
 
 few-stations : (s : List ℕ) → Accepted s → count s ≤ limit
 few-stations s e = whole s (count s) e .few
 
 -- what the search asks, from a position on
-search-from : (c : tie.After-free-of Inv-loop μ-loop) → let l = c .before in let s = l .before .before .before in (i : ℕ) → i ≤ count (now (s .args .table)) → Search (now (s .args .table)) i (s .args .channel) (s .args .place) (l .limits-of .result) (c .free-of .result)
+search-from : (c : tie.After-free-of Inv-loop μ-loop) → let l = c .before in let s = l .before .before .before in (i : ℕ) → i ≤ count (now (s .args .table)) → Search (now (s .args .table)) i (s .args .terms) (s .args .channel) (s .args .place) (l .limits-of .result) (c .free-of .result)
 search-from c i h =
     let l = c .before in
     let s = l .before .before .before in

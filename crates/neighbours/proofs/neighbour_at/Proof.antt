@@ -1,13 +1,10 @@
 -- `neighbours::neighbour_at` meets its contract. Assumes nothing.
 use mathlib.Core.Path.{_≡_, ap, _∙_}
-use Prim.Native.Nat.{ℕ, _≤_}
 use native.Mathlib.Omega.{arith}
-use native.Mathlib.Decide.{ℕ-discrete}
 use denote.Ref.{now}
 use borrow.Author.Needs.{needs}
-use Rattle.part73.specs.Columns.{none}
-use Rattle.spacing.specs.Pair.{columnFor, squareOf, distanceOf}
-use Rattle.spacing.proofs.Rule.{for-most}
+use Rattle.spacing.specs.Pair.{squareOf, distanceOf}
+use Rattle.spacing.proofs.Rule.{columns-only}
 use Rattle.stations.specs.Image.{stationAt}
 use Rattle.survey.specs.Ways.{placeOf}
 use Rattle.survey.proofs.Records.{Known, known-at, room-at}
@@ -44,16 +41,8 @@ cast-separation c = search needs
 column-for-requires : tie.Need-column-for-requires
 column-for-requires c κs = search needs
 
--- the column of two channels, or the mark of none
-at-most : (x y : ℕ) → columnFor x y ≤ 4
-at-most x y = go (ℕ-discrete (columnFor x y) none)
-  where
-    go : Dec (columnFor x y ≡ none) → columnFor x y ≤ 4
-    go (yes e) = omega (arith, e)
-    go (no n) = omega (arith, for-most x y n)
-
 cast-column : tie.Need-cast-column
-cast-column c = omega (arith, rw (← c .column-for .ensures) at (at-most (c .before .before .before .before .before .before .before .args .channel) (c .before .before .before .before .before .station-at .result .channel)))
+cast-column c = omega (arith, rw (← c .column-for .ensures) at (columns-only (c .before .before .before .before .before .before .before .args .channel) (c .before .before .before .before .before .station-at .result .channel)))
 
 returns : tie.Need-returns
 unfolding distanceOf squareOf
@@ -62,7 +51,7 @@ returns c =
     let k = m .before in
     let p = k .before in
     let r = p .before .before in
-    rw (c .column-for .ensures, m .separation-of .ensures, k .km-between .ensures, p .place-of .ensures, r .station-at .ensures)
+    λ km t. rw (c .column-for .ensures, m .separation-of .ensures km t, k .km-between .ensures, p .place-of .ensures, r .station-at .ensures)
 
 pub neighbour-at-spec : {M : Type 1} → statement M
 neighbour-at-spec =

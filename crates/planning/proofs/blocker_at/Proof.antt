@@ -4,7 +4,7 @@ use Prim.Native.Nat.{ℕ, _-_, _<_}
 use native.Mathlib.Omega.{arith}
 use denote.Ref.{now}
 use borrow.Author.Needs.{needs}
-use Rattle.part73.proofs.Facts.{table-a}
+use Rattle.part73.proofs.Chosen.{chosen-table}
 use Rattle.spacing.specs.Reaching.{InRange}
 use Rattle.spacing.proofs.Meaning.{reaches-either}
 use Rattle.stations.specs.Image.{count}
@@ -60,15 +60,17 @@ reach-of-requires : tie.Need-reach-of-requires
 reach-of-requires c κs =
     let l = c .before .before .before .before in
     let p = l .before in
-    (l .limits-by .ensures, (placed p, s p .pre .placed))
+    (placed p, s p .pre .placed)
 
 returns-2 : tie.Need-returns-2
 returns-2 c =
     let v = c .before .before in
     let p = v .before .before .before .before in
     let m = rw (theirs p) at (v .survey .ensures) in
+    let table = chosen-table (p .before .before .before .before .before .before .args .terms .standard) in
+    let reached = c .reach-of .ensures _ (record { table = table; at = v .before .before .before .limits-by .ensures }) in
     record {
-      met = record { mark = refl; own = λ h. rw (p .before .before .station-at .ensures); reach = λ h. reaches-either table-a (rw (theirs p) at (c .reach-of .ensures)) };
+      met = record { mark = refl; own = λ h. rw (p .before .before .station-at .ensures); reach = λ h. reaches-either table (rw (theirs p) at reached) };
       held = record { long = m .long; of = λ h. m };
     }
 

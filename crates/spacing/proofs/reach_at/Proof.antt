@@ -11,7 +11,7 @@ square-in-requires : tie.Need-square-in-requires
 square-in-requires c κs = search needs
 
 returns : tie.Need-returns
-returns c = under-0 (c .before .before .pre .1) (omega (arith, c .before .square-in .ensures, c .if1 .taken))
+returns c = λ f. under-0 f (omega (arith, c .before .square-in .ensures, c .if1 .taken))
 
 square-in-requires-2 : tie.Need-square-in-requires-2
 square-in-requires-2 c κs = search needs
@@ -25,25 +25,25 @@ returns-2 c =
     let l = t .before in
     let e = l .before in
     let s = e .before .before in
-    under-1 (s .pre .1) _ (ap (ltb (s .args .s)) (l .square-in2 .ensures)) (omega (arith, e .before .square-in .ensures, e .if1 .left)) (omega (arith, t .square-in3 .ensures, c .if2 .taken))
+    λ f. under-1 f _ (ap (ltb (s .args .s)) (l .square-in2 .ensures)) (omega (arith, e .before .square-in .ensures, e .if1 .left)) (omega (arith, t .square-in3 .ensures, c .if2 .taken))
 
 square-in-requires-4 : tie.Need-square-in-requires-4
 square-in-requires-4 c κs = search needs
 
 returns-3 : tie.Need-returns-3
 returns-3 c =
-    let f = c .before in
-    let t = f .before .before in
+    let q = c .before in
+    let t = q .before .before in
     let l = t .before in
     let s = l .before .before .before in
-    under-2 (s .pre .1) _ (ap (ltb (s .args .s)) (l .square-in2 .ensures)) (omega (arith, t .square-in3 .ensures, f .before .if2 .left)) (omega (arith, f .square-in4 .ensures, c .if3 .taken))
+    λ f. under-2 f _ (ap (ltb (s .args .s)) (l .square-in2 .ensures)) (omega (arith, t .square-in3 .ensures, q .before .if2 .left)) (omega (arith, q .square-in4 .ensures, c .if3 .taken))
 
 returns-4 : tie.Need-returns-4
 returns-4 c =
-    let f = c .before in
-    let l = f .before .before .before in
+    let q = c .before in
+    let l = q .before .before .before in
     let s = l .before .before .before in
-    under-4 (s .pre .1) _ (ap (ltb (s .args .s)) (l .square-in2 .ensures)) (omega (arith, f .square-in4 .ensures, c .if3 .left))
+    λ f. under-4 f _ (ap (ltb (s .args .s)) (l .square-in2 .ensures)) (omega (arith, q .square-in4 .ensures, c .if3 .left))
 
 pub reach-at-spec : {M : Type 1} → statement M
 reach-at-spec =

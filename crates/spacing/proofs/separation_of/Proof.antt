@@ -2,8 +2,6 @@
 use mathlib.Core.Path.{sym, ap, _∙_}
 use native.Mathlib.Omega.{arith}
 use borrow.Author.Needs.{needs}
-use Rattle.part73.specs.TableA.{tableA}
-use Rattle.part73.proofs.Facts.{table-a}
 use Rattle.spacing.specs.Pair.{separation}
 use Rattle.spacing.proofs.Rule.{for-most}
 use Rattle.spacing.proofs.separation_of.Statement.{statement}
@@ -16,7 +14,7 @@ returns : tie.Need-returns
 unfolding separation
 returns c =
     let s = c .before .before in
-    sym (ap (tableA (s .args .a) (s .args .b)) (sym (c .before .column-for .ensures) ∙ c .if1 .taken) ∙ table-a .ends (s .args .a) (s .args .b) (s .pre .0) (s .pre .1))
+    λ km t. sym (ap (km (s .args .a) (s .args .b)) (sym (c .before .column-for .ensures) ∙ c .if1 .taken) ∙ t .table .ends (s .args .a) (s .args .b) (s .pre .0) (s .pre .1))
 
 separation-requires : tie.Need-separation-requires
 separation-requires c κs =
@@ -28,7 +26,7 @@ returns-2 : tie.Need-returns-2
 unfolding separation
 returns-2 c =
     let s = c .before .before .before in
-    c .separation .ensures ∙ ap (tableA (s .args .a) (s .args .b)) (c .before .before .column-for .ensures)
+    λ km t. c .separation .ensures km t ∙ ap (km (s .args .a) (s .args .b)) (c .before .before .column-for .ensures)
 
 pub separation-of-spec : {M : Type 1} → statement M
 separation-of-spec = tie.close (tie.spec column-for-requires returns separation-requires returns-2)

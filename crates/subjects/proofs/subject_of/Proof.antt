@@ -8,7 +8,7 @@ use denote.Ref.{now}
 use borrow.Author.Needs.{needs}
 use borrow.Author.Tests.{lt-ltb, le-ltb, eq-eqb, ne-eqb}
 use Rattle.ground.specs.Guard.{given}
-use Rattle.subjects.specs.Subjects.{subjectOf}
+use Rattle.subjects.specs.Subjects.{afterTerms, subjectOf}
 use Rattle.subjects.proofs.subject_of.Statement.{statement}
 use Rattle.subjects.proofs.subject_of.Tie as tie
 
@@ -17,8 +17,8 @@ unfolding subjectOf given
 returns c = sym (rw (lt-ltb _ _ (c .if1 .taken)))
 
 -- letter and terms are there
-there : (c : tie.Else1) → ltb (length (now (c .before .before .args .input))) 5 ≡ false
-there c = le-ltb (length (now (c .before .before .args .input))) 5 (omega (arith, c .if1 .left))
+there : (c : tie.Else1) → ltb (length (now (c .before .before .args .input))) afterTerms ≡ false
+there c = le-ltb (length (now (c .before .before .args .input))) afterTerms (omega (arith, c .if1 .left))
 
 get8-requires : tie.Need-get8-requires
 get8-requires c κs = search needs

@@ -3,13 +3,12 @@ use mathlib.Core.Path.{_≡_, sym, ap, _∙_}
 use mathlib.Core.Bool.{and-true}
 use denote.Ref.{now}
 use borrow.Author.Needs.{needs}
-use Rattle.part73.specs.TableA.{tableA}
 use Rattle.spacing.specs.Pair.{sited}
 use Rattle.stations.specs.Image.{stationAt}
-use Rattle.survey.specs.Ways.{placeOf, looked, near}
+use Rattle.survey.specs.Ways.{placeOf, looked, chosenFor, near}
 use Rattle.survey.specs.Walking.{blocks}
 use Rattle.survey.proofs.Records.{known-at, room-at}
-use Rattle.survey.proofs.Shorts.{blocks-spaced}
+use Rattle.survey.proofs.Shorts.{walk-limited, blocks-spaced}
 use Rattle.survey.proofs.short_at.Statement.{statement}
 use Rattle.survey.proofs.short_at.Tie as tie
 
@@ -28,16 +27,17 @@ place-of-requires c κs = search needs
 is-short-requires : tie.Need-is-short-requires
 is-short-requires c κs =
     let s = c .before .before .before .before in
-    (s .pre .0 .held, (s .pre .0 .placed, rw (theirs c) (known-at _ (s .pre .0 .accepted) (s .args .i) (s .pre .1) .placed)))
+    (s .pre .0 .placed, rw (theirs c) (known-at _ (s .pre .0 .accepted) (s .args .i) (s .pre .1) .placed))
 
 looks-requires : tie.Need-looks-requires
 looks-requires c κs = search needs
 
 -- whether it is short to the record
-near-it : (c : tie.After-is-short) → let s = c .before .before .before .before .before in c .is-short .result ≡ near tableA (sited (s .args .place) (s .args .channel)) (stationAt (now (s .args .table)) (s .args .i))
+near-it : (c : tie.After-is-short) → let s = c .before .before .before .before .before in c .is-short .result ≡ near (chosenFor (s .args .terms)) (sited (s .args .place) (s .args .channel)) (stationAt (now (s .args .table)) (s .args .i))
 near-it c =
     let t = c .before in
-    simp (theirs t, t .before .before .station-at .ensures) at (c .is-short .ensures)
+    let s = t .before .before .before .before in
+    simp (theirs t, t .before .before .station-at .ensures) at (c .is-short .ensures _ (walk-limited (s .pre .0)))
 
 returns : tie.Need-returns
 unfolding blocks
@@ -49,7 +49,7 @@ returns c =
     (c .looks .ensures ∙ ap (looked (s .args .terms)) (r .station-at .ensures))
 
 returns-2 : tie.Need-returns-2
-returns-2 c = sym (blocks-spaced _ _ _ _ (sym (near-it (c .before)) ∙ c .if1 .left))
+returns-2 c = sym (blocks-spaced _ _ _ _ _ (sym (near-it (c .before)) ∙ c .if1 .left))
 
 pub short-at-spec : {M : Type 1} → statement M
 short-at-spec =

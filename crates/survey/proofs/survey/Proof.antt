@@ -3,26 +3,26 @@ use mathlib.Core.Path.{_≡_}
 use Prim.Native.Nat.{_-_, _≤_, _<_}
 use native.Mathlib.Omega.{arith}
 use denote.Ref.{now}
-use Rattle.part73.specs.TableA.{tableA}
 use Rattle.spacing.specs.Pair.{sited}
 use Rattle.stations.specs.Image.{count}
-use Rattle.survey.specs.Ways.{looked}
+use Rattle.survey.specs.Ways.{looked, chosenFor}
 use Rattle.survey.specs.Walking.{blocks}
 use Rattle.marking.specs.Marks.{Marked}
 use Rattle.survey.proofs.Records.{few, header-room}
 use Rattle.marking.proofs.Marks.{marked-start, marked-turn}
+use Rattle.survey.proofs.Shorts.{walk-limited}
 use Rattle.survey.proofs.Frames.{marked-on}
 use Rattle.survey.proofs.survey.Statement.{statement}
 use Rattle.survey.proofs.survey.Tie as tie
 
 abbrev Inv-loop : tie.InvT-loop
-Inv-loop table terms place limits channels marks₀ frame n stop from₀ marks from = (from ≤ count table) × Marked (λ m j. blocks tableA (looked terms) table (sited place m) j) (channels .first) (channels .last) from marks
+Inv-loop table terms place limits channels marks₀ frame n stop from₀ marks from = (from ≤ count table) × Marked (λ m j. blocks (chosenFor terms) (looked terms) table (sited place m) j) (channels .first) (channels .last) from marks
 
 abbrev μ-loop : tie.MeasureT-loop
 μ-loop table terms place limits channels marks₀ frame n stop from₀ marks from = n - from
 
 frame-around-requires : tie.Need-frame-around-requires Inv-loop μ-loop
-frame-around-requires c κs = let w = c .before .pre .walk in (w .held, w .placed)
+frame-around-requires c κs = let w = c .before .pre .walk in (record { km = chosenFor (c .before .args .terms); limited = walk-limited w }, w .placed)
 
 wipe-requires : tie.Need-wipe-requires Inv-loop μ-loop
 wipe-requires c κs = c .before .before .before .pre .long
@@ -46,12 +46,12 @@ next-close-requires c κs =
     record { accepted = b .before .before .before .before .before .before .pre .walk .accepted; within = l .loop .inv .0; turns = omega arith; all = omega arith }
 
 -- the marks up to the next record that is close
-on : (c : tie.After-next-close Inv-loop μ-loop) → let l = c .before .before in let s = l .before .before .before .before .before .before .before in Marked (λ m j. blocks tableA (looked (s .args .terms)) (now (s .args .table)) (sited (s .args .place) m) j) (s .args .channels .first) (s .args .channels .last) (c .next-close .result) (l .loop .marks)
+on : (c : tie.After-next-close Inv-loop μ-loop) → let l = c .before .before in let s = l .before .before .before .before .before .before .before in Marked (λ m j. blocks (chosenFor (s .args .terms)) (looked (s .args .terms)) (now (s .args .table)) (sited (s .args .place) m) j) (s .args .channels .first) (s .args .channels .last) (c .next-close .result) (l .loop .marks)
 on c =
     let l = c .before .before in
     let f = l .before .before .before .before .before in
     let s = f .before .before in
-    marked-on _ (s .pre .walk .accepted) (f .frame-around .ensures) (c .next-close .ensures) (looked (s .args .terms)) (l .loop .inv .1)
+    marked-on _ (s .pre .walk .accepted) (f .frame-around .ensures _ (walk-limited (s .pre .walk))) (c .next-close .ensures) (looked (s .args .terms)) (l .loop .inv .1)
 
 returns : tie.Need-returns Inv-loop μ-loop
 returns c =

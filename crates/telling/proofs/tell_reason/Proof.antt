@@ -12,8 +12,8 @@ use borrow.Author.Needs.{needs}
 use Rattle.telling.proofs.tell_reason.Statement.{statement}
 use Rattle.telling.proofs.tell_reason.Tie as tie
 
-abbrev text : Why → List ℕ
-text why = printed reasonText (outcomeOf why)
+abbrev text : ℕ → Why → List ℕ
+text standard why = printed (reasonText standard) (outcomeOf why)
 
 enum-told : tie.Need-enum-told
 enum-told c = search needs
@@ -46,7 +46,7 @@ returns : tie.Need-returns
 returns c =
     let p = c .before .before .before .before .before in
     let w = p .put-clear .ensures in
-    tells-as (waiting (omega (arith, w .1)) (w .0) ∙ sym (ap text (p .before .before .enum-told .given .1))) (c .hand .ensures)
+    tells-as (waiting (omega (arith, w .1)) (w .0) ∙ sym (ap (text _) (p .before .before .enum-told .given .1))) (c .hand .ensures)
 
 same-length-2 : tie.Need-same-length-2
 same-length-2 c = search needs
@@ -55,7 +55,7 @@ returns-2 : tie.Need-returns-2
 returns-2 c =
     let p = c .before .before .before .before .before in
     let w = p .put-reason .ensures in
-    tells-as (waiting (omega (arith, w .1)) (w .0) ∙ sym (ap text (p .before .before .before .why .given .1))) (c .hand2 .ensures)
+    tells-as (waiting (omega (arith, w .1)) (w .0) ∙ sym (ap (text _) (p .before .before .before .why .given .1))) (c .hand2 .ensures)
 
 same-length-3 : tie.Need-same-length-3
 same-length-3 c = search needs
@@ -63,7 +63,7 @@ same-length-3 c = search needs
 returns-3 : tie.Need-returns-3
 returns-3 c =
     let p = c .before .before in
-    tells-as (sym (ap text (p .before .before .before .before .why2 .given .1))) (p .tell-refusal .ensures)
+    tells-as (sym (ap (text _) (p .before .before .before .before .why2 .given .1))) (p .tell-refusal .ensures)
 
 pub tell-reason-spec : {M : Type 1} → statement M
 tell-reason-spec =

@@ -27,8 +27,8 @@ module _ (c : tie.After-survey) where
   marked : Marked (sceneOf (now (s .args .table)) (s .args .terms) (s .args .place) .new) (s .args .channels .first) (s .args .channels .last) (count (now (s .args .table))) (c .survey .last .1 .1 .1 .1 .1 .0)
   marked = as-new _ _ _ (s .args .channels) (c .survey .ensures)
 
-by-table-a-requires : tie.Need-by-table-a-requires
-by-table-a-requires c κs = search needs
+squares-by-requires : tie.Need-squares-by-requires
+squares-by-requires c κs = search needs
 
 limits-by-requires : tie.Need-limits-by-requires
 limits-by-requires c κs = search needs
@@ -43,7 +43,7 @@ plan-requires c κs =
     record {
       accepted = q .question .accepted;
       placed = q .question .placed;
-      squared = v .before .before .before .before .before .by-table-a .ensures;
+      squared = v .before .before .before .before .before .squares-by .ensures;
       asked = q .question .asked;
       marked = marked v;
       down = q .down;
@@ -79,7 +79,7 @@ pub list-with-spec : {M : Type 1} → statement M
 list-with-spec =
     tie.close
     (tie.spec
-    by-table-a-requires
+    squares-by-requires
     limits-by-requires
     survey-requires
     plan-requires

@@ -19,7 +19,7 @@ unfolding flat rowOf
 returns c =
     let w = c .before .before in
     let n = w .before .before in
-    rw (n .neighbour-at .ensures) at (w .put-row .ensures)
+    λ km t. rw (n .neighbour-at .ensures km t) at (w .put-row .ensures)
 
 pub put-station-spec : {M : Type 1} → statement M
 put-station-spec = tie.close (tie.spec neighbour-at-requires put-row-requires same-length returns)

@@ -8,10 +8,10 @@ use Rattle.second.proofs.enumeration.put_arrange.Statement.{statement}
 use Rattle.second.proofs.enumeration.put_arrange.Tie as tie
 
 abbrev Inv-loop : tie.InvT-loop
-Inv-loop table n first last new rows₀ at₀ channel₀ rows at channel = (221 ≤ channel) × (channel ≤ 301) × (at + 240 * capacity * 221 ≤ 240 * capacity * channel) × (length rows ≡ length rows₀)
+Inv-loop table n first last standard new rows₀ at₀ channel₀ rows at channel = (221 ≤ channel) × (channel ≤ 301) × (at + 240 * capacity * 221 ≤ 240 * capacity * channel) × (length rows ≡ length rows₀)
 
 abbrev μ-loop : tie.MeasureT-loop
-μ-loop table n first last new rows₀ at₀ channel₀ rows at channel = 301 - channel
+μ-loop table n first last standard new rows₀ at₀ channel₀ rows at channel = 301 - channel
 
 loop-holds : tie.Need-loop-holds Inv-loop μ-loop
 loop-holds c = search needs

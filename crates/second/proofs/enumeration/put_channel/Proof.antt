@@ -7,10 +7,10 @@ use Rattle.second.proofs.enumeration.put_channel.Statement.{statement}
 use Rattle.second.proofs.enumeration.put_channel.Tie as tie
 
 abbrev Inv-loop : tie.InvT-loop
-Inv-loop table n new rows₀ start at₀ p₀ rows at p = (p ≤ n) × (at ≤ start + 240 * p) × (length rows ≡ length rows₀)
+Inv-loop table n standard new rows₀ start at₀ p₀ rows at p = (p ≤ n) × (at ≤ start + 240 * p) × (length rows ≡ length rows₀)
 
 abbrev μ-loop : tie.MeasureT-loop
-μ-loop table n new rows₀ start at₀ p₀ rows at p = n - p
+μ-loop table n standard new rows₀ start at₀ p₀ rows at p = n - p
 
 first-short-requires : tie.Need-first-short-requires Inv-loop μ-loop
 first-short-requires c κs = search needs

@@ -7,10 +7,10 @@ use Rattle.second.proofs.enumeration.put_channels.Statement.{statement}
 use Rattle.second.proofs.enumeration.put_channels.Tie as tie
 
 abbrev Inv-loop : tie.InvT-loop
-Inv-loop table n new p rows₀ start at₀ channel₀ rows at channel = (221 ≤ channel) × (channel ≤ 301) × (at + 663 ≤ start + 3 * channel) × (length rows ≡ length rows₀)
+Inv-loop table n standard new p rows₀ start at₀ channel₀ rows at channel = (221 ≤ channel) × (channel ≤ 301) × (at + 663 ≤ start + 3 * channel) × (length rows ≡ length rows₀)
 
 abbrev μ-loop : tie.MeasureT-loop
-μ-loop table n new p rows₀ start at₀ channel₀ rows at channel = 301 - channel
+μ-loop table n standard new p rows₀ start at₀ channel₀ rows at channel = 301 - channel
 
 loop-holds : tie.Need-loop-holds Inv-loop μ-loop
 loop-holds c = search needs

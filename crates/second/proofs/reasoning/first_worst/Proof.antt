@@ -5,10 +5,10 @@ use Rattle.second.proofs.reasoning.first_worst.Statement.{statement}
 use Rattle.second.proofs.reasoning.first_worst.Tie as tie
 
 abbrev Inv-loop : tie.InvT-loop
-Inv-loop table n new i₀ i = i ≤ n
+Inv-loop table n standard new i₀ i = i ≤ n
 
 abbrev μ-loop : tie.MeasureT-loop
-μ-loop table n new i₀ i = n - i
+μ-loop table n standard new i₀ i = n - i
 
 loop-holds : tie.Need-loop-holds Inv-loop μ-loop
 loop-holds c = search needs

@@ -7,10 +7,10 @@ use Rattle.second.proofs.shortness.put_check.Statement.{statement}
 use Rattle.second.proofs.shortness.put_check.Tie as tie
 
 abbrev Inv-loop : tie.InvT-loop
-Inv-loop table n new rows₀ at₀ i₀ rows at i = (i ≤ n) × (at ≤ 3 * i) × (length rows ≡ length rows₀)
+Inv-loop table n standard new rows₀ at₀ i₀ rows at i = (i ≤ n) × (at ≤ 3 * i) × (length rows ≡ length rows₀)
 
 abbrev μ-loop : tie.MeasureT-loop
-μ-loop table n new rows₀ at₀ i₀ rows at i = n - i
+μ-loop table n standard new rows₀ at₀ i₀ rows at i = n - i
 
 loop-holds : tie.Need-loop-holds Inv-loop μ-loop
 loop-holds c = search needs

@@ -8,7 +8,7 @@ use borrow.Author.Tests.{le-ltb}
 use Rattle.ground.proofs.Guards.{on}
 use Rattle.ground.proofs.Filling.{Filled, fill-turn}
 use Rattle.distance.specs.Bounds.{LeastScale}
-use Rattle.part73.proofs.Facts.{table-a}
+use Rattle.part73.proofs.Chosen.{chosen-table}
 use Rattle.spacing.proofs.Places.{lat-fits}
 use Rattle.spacing.proofs.Limits.{placeAt, row-filled, in-km, limits-filled}
 use Rattle.spacing.proofs.limiting.limits_by.Statement.{statement}
@@ -20,10 +20,10 @@ record Turns (f : ℕ → ℕ) (out : List ℕ) (k : ℕ) : Type 0 where
   filled : Filled f out 48 k
 
 abbrev Inv-loop : tie.InvT-loop
-Inv-loop squares class lat scale separations out₀ k₀ out k = Turns (placeAt squares class separations scale) out k
+Inv-loop squares standard class lat scale separations out₀ k₀ out k = Turns (placeAt squares class separations scale) out k
 
 abbrev μ-loop : tie.MeasureT-loop
-μ-loop squares class lat scale separations out₀ k₀ out k = 48 - k
+μ-loop squares standard class lat scale separations out₀ k₀ out k = 48 - k
 
 least : (c : tie.After-least-scale Inv-loop μ-loop) → LeastScale (c .before .before .args .p .latitude) (c .least-scale .result)
 least c = simp (toZ-ofZ (lat-fits (c .before .before .pre .1))) at (c .least-scale .ensures)
@@ -45,7 +45,7 @@ seconds-at-requires c κs =
     let at = c .before .before in
     let a = at .before .before in
     let s = a .before .before .before in
-    record { in-km = in-km (s .args .p) (s .pre .1 .known) (a .co-channel-of .ensures) table-a; some = omega (arith, least (a .before) .some); low = at .loop .inv .low; high = c .before .loop-test .taken }
+    record { in-km = in-km (s .args .p) (s .pre .1 .known) (a .co-channel-of .ensures) (chosen-table _); some = omega (arith, least (a .before) .some); low = at .loop .inv .low; high = c .before .loop-test .taken }
 
 mul-out : tie.Need-mul-out Inv-loop μ-loop
 mul-out c = omega arith
