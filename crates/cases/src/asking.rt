@@ -1,16 +1,16 @@
 // Made questions.
-use super::chance::below;
-use super::chance::once_in;
-use super::limits::at_limit;
 use super::question::ADD;
 use super::question::MOVE;
 use super::question::Question;
-use super::tables::ASTRIDE;
-use super::tables::any_site;
-use super::tables::site_astride;
-use super::words::Site;
+use scenes::ASTRIDE;
+use scenes::Site;
+use scenes::any_site;
+use scenes::at_limit;
+use scenes::below;
+use scenes::once_in;
+use scenes::site_astride;
 ghost use Prim.Native.Nat.{_≤_, _<_};
-ghost use Rattle.cases.specs.Sizes.{mostRecords};
+ghost use Rattle.scenes.specs.Sizes.{mostRecords};
 
 // So many records are many: the second implementation is slow to arrange beside them.
 const MANY: u32 = 100;

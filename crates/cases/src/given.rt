@@ -3,10 +3,6 @@
 use super::chosen::standard_case;
 use super::chosen::station_class;
 use super::headers::header_of;
-use super::image::Record;
-use super::image::put_any_header;
-use super::image::put_header;
-use super::image::put_record;
 use super::meridian::across_case;
 use super::paper::paper_channel;
 use super::paper::paper_class;
@@ -18,9 +14,13 @@ use super::question::CHECK;
 use super::question::Question;
 use super::question::READ;
 use super::question::REASON;
-use super::words::Site;
+use scenes::Record;
+use scenes::Site;
+use scenes::put_any_header;
+use scenes::put_header;
+use scenes::put_record;
 ghost use Prim.Native.Nat.{_≤_};
-ghost use Rattle.cases.specs.Sizes.{mostRecords};
+ghost use Rattle.scenes.specs.Sizes.{mostRecords};
 
 // A question; its answer with all the room for rows, and with one place; and the first four numbers behind it.
 pub struct Given {

@@ -1,7 +1,7 @@
 // Headers without a record, with what read answers to them.
 use super::given::REFUSED;
-use super::sizes::LIMIT;
-use super::sizes::LINE;
+use scenes::LIMIT;
+use scenes::LINE;
 
 // A header, and the answer of read.
 pub(crate) struct Header {

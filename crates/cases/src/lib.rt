@@ -1,32 +1,21 @@
-// The paper's questions, and made questions, tables and runs: numbers from a fixed seed, sites at the limits, and damage.
+// The paper's questions and those with given answers, made questions, and the runs of made cases.
 mod asking;
-mod chance;
 mod chosen;
-mod damage;
 mod given;
 mod headers;
-mod image;
-mod limits;
 mod meridian;
 mod paper;
 mod question;
 mod runs;
 mod sides;
-mod sizes;
-mod tables;
-mod words;
 
 pub use asking::first_id;
 pub use asking::made_question;
-pub use chance::SEED;
-pub use chance::below;
-pub use chance::mixed;
 pub use given::GIVEN;
 pub use given::GIVEN_BYTES;
 pub use given::UNTOLD;
 pub use given::given_case;
 pub use given::put_given_table;
-pub use image::put_header;
 pub use paper::paper_channel;
 pub use paper::paper_class;
 pub use paper::paper_question;
@@ -50,5 +39,3 @@ pub use runs::run_of;
 pub use sides::SIDES;
 pub use sides::side_class;
 pub use sides::side_question;
-pub use sizes::IMAGE_BYTES;
-pub use sizes::TABLE_BYTES;

@@ -1,7 +1,4 @@
 // The runs of made cases.
-use super::chance::below;
-use super::damage::damaged;
-use super::image::Record;
 use super::question::ADD;
 use super::question::ARRANGE;
 use super::question::CHECK;
@@ -11,19 +8,22 @@ use super::question::Question;
 use super::question::READ;
 use super::question::REASON;
 use super::question::WITHDRAW;
-use super::sizes::LIMIT;
-use super::sizes::LINE;
-use super::sizes::MOST;
-use super::tables::ASTRIDE;
-use super::tables::AT_LIMITS;
-use super::tables::CROWDED;
-use super::tables::EQUALS;
-use super::tables::LOW;
-use super::tables::SCATTERED;
-use super::tables::made_table;
-use super::words::Site;
+use scenes::ASTRIDE;
+use scenes::AT_LIMITS;
+use scenes::CROWDED;
+use scenes::EQUALS;
+use scenes::LIMIT;
+use scenes::LINE;
+use scenes::LOW;
+use scenes::MOST;
+use scenes::Record;
+use scenes::SCATTERED;
+use scenes::Site;
+use scenes::below;
+use scenes::damaged;
+use scenes::made_table;
 ghost use Prim.Native.Nat.{_≤_};
-ghost use Rattle.cases.specs.Sizes.{mostRecords, room};
+ghost use Rattle.scenes.specs.Sizes.{mostRecords, room};
 
 // Asked in a run in place of one question: every question on a table but arrange.
 const ALL_BUT_ARRANGE: u32 = 8;

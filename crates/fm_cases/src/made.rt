@@ -2,12 +2,12 @@
 use beside::IMAGE_ROOM;
 use beside::compare;
 use cases::Run;
-use cases::TABLE_BYTES;
 use cases::case_table;
 use cases::first_id;
 use cases::kind_of;
 use cases::made_question;
 use cases::records_of;
+use scenes::TABLE_BYTES;
 use tally::Notes;
 use tally::least;
 

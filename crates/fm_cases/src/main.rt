@@ -6,14 +6,14 @@ mod paper;
 
 use beside::IMAGE_ROOM;
 use cases::RUNS;
-use cases::SEED;
-use cases::TABLE_BYTES;
 use cases::run_of;
 use given::given_cases;
 use limits::limits_alike;
 use limits::sides_alike;
 use made::run_cases;
 use paper::paper_cases;
+use scenes::SEED;
+use scenes::TABLE_BYTES;
 use tally::Notes;
 use tally::fresh_notes;
 use tally::print_counts;

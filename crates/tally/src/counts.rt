@@ -4,9 +4,9 @@ use cases::DISTANCE;
 use cases::MOVE;
 use cases::READ;
 use cases::REASON;
-use cases::SEED;
 use cases::WITHDRAW;
-use cases::mixed;
+use scenes::SEED;
+use scenes::mixed;
 ghost use Prim.Native.Nat.{_+_, _≤_, _<_};
 
 // The counts, of 27 numbers (0 where it is granted) for each of eight questions; behind them those of the reasons, clear and by

@@ -1,7 +1,7 @@
 // The room that a question is asked with.
 use super::counts::extra_of;
 use super::counts::number_of;
-use cases::below;
+use scenes::below;
 ghost use Prim.Native.Nat.{_≤_, _<_};
 
 // Places that are plenty more than needed.

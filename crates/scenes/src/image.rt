@@ -2,15 +2,15 @@
 use super::sizes::version_for;
 use super::words::Site;
 ghost use Prim.Native.Nat.{_+_, _≤_};
-ghost use Rattle.cases.specs.Sizes.{mostRecords, longest};
+ghost use Rattle.scenes.specs.Sizes.{mostRecords, longest};
 
 // A record's fields.
-pub(crate) struct Record {
-    pub(crate) id: u32,
-    pub(crate) channel: u32,
-    pub(crate) class: u32,
-    pub(crate) flags: u32,
-    pub(crate) site: Site,
+pub struct Record {
+    pub id: u32,
+    pub channel: u32,
+    pub class: u32,
+    pub flags: u32,
+    pub site: Site,
 }
 
 // Where the record at a position starts.
@@ -45,7 +45,7 @@ pub(crate) fn put_four(table: &mut [u8], at: usize, value: u32)
 }
 
 // Writes a header: the mark FMS, a version, a byte, and a count.
-pub(crate) fn put_any_header(table: &mut [u8], version: u32, sixth: u32, count: u32) {
+pub fn put_any_header(table: &mut [u8], version: u32, sixth: u32, count: u32) {
     put_four(table, 0, 0x464D_5300);
     put_two(table, 3, version);
     put_one(table, 5, sixth);
@@ -58,7 +58,7 @@ pub fn put_header(table: &mut [u8], n: u32) {
 }
 
 // Writes the record at a position.
-pub(crate) fn put_record(table: &mut [u8], position: usize, record: Record)
+pub fn put_record(table: &mut [u8], position: usize, record: Record)
     requires { ⌜ position ≤ mostRecords ⌝ }
 {
     let at = start_of(position);

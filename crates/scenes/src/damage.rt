@@ -9,7 +9,7 @@ use super::sizes::LIMIT;
 use super::sizes::LINE;
 use super::sizes::version_for;
 ghost use Prim.Native.Nat.{_≤_, _<_};
-ghost use Rattle.cases.specs.Sizes.{mostRecords, longest, room};
+ghost use Rattle.scenes.specs.Sizes.{mostRecords, longest, room};
 
 // A version that is none.
 fn other_version(state: &mut u64) -> u32 {
@@ -147,7 +147,7 @@ fn damaged_twice(state: &mut u64, table: &mut [u8], n: u32, length: usize) -> us
 }
 
 // Damages a table of n records once or twice, and gives its length.
-pub(crate) fn damaged(state: &mut u64, table: &mut [u8], n: u32, length: usize) -> usize
+pub fn damaged(state: &mut u64, table: &mut [u8], n: u32, length: usize) -> usize
     requires { ⌜ (length ≤ longest) × (n ≤ mostRecords) ⌝ }
     ensures { λ r. ⌜ r ≤ room ⌝ }
 {

@@ -27,7 +27,7 @@ pub fn below(state: &mut u64, n: u32) -> u32
 }
 
 // True once in n times.
-pub(crate) fn once_in(state: &mut u64, n: u32) -> bool
+pub fn once_in(state: &mut u64, n: u32) -> bool
     requires { ⌜ 0 < n ⌝ }
 {
     below(state, n) == 0

@@ -8,9 +8,9 @@ pub(crate) const LATITUDES: u32 = 540_000;
 pub(crate) const LONGITUDES: u32 = 1_296_000;
 
 // A site in two words.
-pub(crate) struct Site {
-    pub(crate) lat: u32,
-    pub(crate) lon: u32,
+pub struct Site {
+    pub lat: u32,
+    pub lon: u32,
 }
 
 // The site so many seconds north of the southern and east of the western end.

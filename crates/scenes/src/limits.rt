@@ -11,13 +11,7 @@ use super::words::site_at;
 ghost use Prim.Native.Nat.{_≤_};
 
 // R of two channels and two classes by a standard, 0 where there is none or the first channel cannot be asked.
-pub(crate) fn separation(
-    standard: u32,
-    channel1: u32,
-    class1: u32,
-    channel2: u32,
-    class2: u32,
-) -> u32 {
+pub fn separation(standard: u32, channel1: u32, class1: u32, channel2: u32, class2: u32) -> u32 {
     if channel1 < 221 {
         return 0;
     }
@@ -39,7 +33,7 @@ fn reaches(north1: u32, north2: u32, seconds: u32, r: u32) -> bool {
 }
 
 // The fewest seconds of longitude at which two sites on two latitudes are at least r km from each other, found by halving.
-pub(crate) fn edge(north1: u32, north2: u32, r: u32) -> u32
+pub fn edge(north1: u32, north2: u32, r: u32) -> u32
     ensures { λ e. ⌜ e ≤ 65536 ⌝ }
 {
     let mut low: u32 = 0;
@@ -82,7 +76,7 @@ pub(crate) fn either_way(state: &mut u64, from: u32, seconds: u32) -> u32
 }
 
 // A site at the limit of r km from another, or one second of longitude on either side of it.
-pub(crate) fn at_limit(state: &mut u64, from: Site, r: u32) -> Site {
+pub fn at_limit(state: &mut u64, from: Site, r: u32) -> Site {
     let north1 = north(from);
     let north2 = near_north(state, north1, r);
     let limit = either_way(state, east(from), edge(north1, north2, r));

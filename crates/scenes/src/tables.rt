@@ -16,25 +16,25 @@ use super::words::eastward;
 use super::words::north;
 use super::words::site_at;
 ghost use Prim.Native.Nat.{_≤_, _<_};
-ghost use Rattle.cases.specs.Sizes.{mostRecords, longest};
+ghost use Rattle.scenes.specs.Sizes.{mostRecords, longest};
 
 // Records at the limits of what is asked and of each other.
-pub(crate) const AT_LIMITS: u32 = 0;
+pub const AT_LIMITS: u32 = 0;
 
 // Records anywhere within some hundred km; that of the id that is asked at the limits of what is asked.
-pub(crate) const SCATTERED: u32 = 1;
+pub const SCATTERED: u32 = 1;
 
 // Records on channels at or below 220 only.
-pub(crate) const LOW: u32 = 2;
+pub const LOW: u32 = 2;
 
 // Records at the limits of what is asked, many of them as far from it as another one.
-pub(crate) const EQUALS: u32 = 3;
+pub const EQUALS: u32 = 3;
 
 // Records within some km of what is asked, on its channel or up to 3 beside: all are short to it.
-pub(crate) const CROWDED: u32 = 4;
+pub const CROWDED: u32 = 4;
 
 // Records of any of these styles, around a site astride the 180th meridian.
-pub(crate) const ASTRIDE: u32 = 5;
+pub const ASTRIDE: u32 = 5;
 
 // A reach of some hundred km, in seconds.
 const WIDE: u32 = 20_000;
@@ -57,7 +57,7 @@ fn place_within(state: &mut u64, most: u32) -> u32
 }
 
 // A site: the crossing of equator and meridian, one astride the 180th meridian, an end of a range, or any other.
-pub(crate) fn any_site(state: &mut u64) -> Site {
+pub fn any_site(state: &mut u64) -> Site {
     match below(state, 8) {
         0 | 1 => site_at(270_000, 648_000),
         2 => site_astride(state),
@@ -90,7 +90,7 @@ fn site_near(state: &mut u64, from: Site, height: u32, width: u32) -> Site
 }
 
 // A site at any latitude, at the western end or near the 180th meridian on either side.
-pub(crate) fn site_astride(state: &mut u64) -> Site {
+pub fn site_astride(state: &mut u64) -> Site {
     let end = site_at(place_within(state, LATITUDES), 0);
     match below(state, 8) {
         0 => end,
@@ -267,7 +267,7 @@ fn either(state: &mut u64, a: Record, b: Record) -> Record {
 }
 
 // Writes a table of n records whose ids rise by 3 from a number, made from what is asked, and gives its length.
-pub(crate) fn made_table(
+pub fn made_table(
     state: &mut u64,
     asked: Record,
     start: u32,

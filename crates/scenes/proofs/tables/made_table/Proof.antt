@@ -1,10 +1,10 @@
--- `cases::tables::made_table` is safe and ends. The table keeps its length; the measure is the records left. Assumes nothing.
+-- `scenes::tables::made_table` is safe and ends. The table keeps its length; the measure is the records left. Assumes nothing.
 use Prim.Native.Nat.{_-_, _≤_}
 use mathlib.Core.Path.{_≡_}
 use lib.ListN.{length}
 use borrow.Author.Needs.{needs}
-use Rattle.cases.proofs.tables.made_table.Statement.{statement}
-use Rattle.cases.proofs.tables.made_table.Tie as tie
+use Rattle.scenes.proofs.tables.made_table.Statement.{statement}
+use Rattle.scenes.proofs.tables.made_table.Tie as tie
 
 abbrev Inv-loop : tie.InvT-loop
 Inv-loop state₀ asked start n style table₀ from₀ id₀ i₀ state table from id i = (i ≤ n) × (length table ≡ length table₀)

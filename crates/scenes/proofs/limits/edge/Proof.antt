@@ -1,8 +1,8 @@
--- `cases::limits::edge` is safe and ends. The ends of the search stand in order; the measure is what is between them. Assumes nothing.
+-- `scenes::limits::edge` is safe and ends. The ends of the search stand in order; the measure is what is between them. Assumes nothing.
 use Prim.Native.Nat.{_-_, _≤_}
 use borrow.Author.Needs.{needs}
-use Rattle.cases.proofs.limits.edge.Statement.{statement}
-use Rattle.cases.proofs.limits.edge.Tie as tie
+use Rattle.scenes.proofs.limits.edge.Statement.{statement}
+use Rattle.scenes.proofs.limits.edge.Tie as tie
 
 abbrev Inv-loop : tie.InvT-loop
 Inv-loop north1 north2 r low₀ high₀ low high = (low ≤ high) × (high ≤ 65536)

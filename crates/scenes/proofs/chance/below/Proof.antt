@@ -1,8 +1,8 @@
--- `cases::chance::below` meets its contract: a remainder is below its divisor. Assumes nothing.
+-- `scenes::chance::below` meets its contract: a remainder is below its divisor. Assumes nothing.
 use native.Mathlib.Nat.{mod-lt}
 use borrow.Author.Needs.{needs}
-use Rattle.cases.proofs.chance.below.Statement.{statement}
-use Rattle.cases.proofs.chance.below.Tie as tie
+use Rattle.scenes.proofs.chance.below.Statement.{statement}
+use Rattle.scenes.proofs.chance.below.Tie as tie
 
 draw-requires : tie.Need-draw-requires
 draw-requires c κs = search needs

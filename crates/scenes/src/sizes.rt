@@ -2,13 +2,13 @@
 ghost use Prim.Native.Nat.{_≤_};
 
 // The most records of a table of version 1.
-pub(crate) const LINE: u32 = 2_000;
+pub const LINE: u32 = 2_000;
 
 // The most records of a table of version 2.
-pub(crate) const LIMIT: u32 = 4_000;
+pub const LIMIT: u32 = 4_000;
 
 // The most records of a made table: two more.
-pub(crate) const MOST: u32 = LIMIT + 2;
+pub const MOST: u32 = LIMIT + 2;
 
 // The bytes of the longest image.
 pub const IMAGE_BYTES: usize = 8 + 16 * LIMIT as usize;

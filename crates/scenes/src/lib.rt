@@ -1,0 +1,36 @@
+// Made tables: numbers from a fixed seed, sites at the limits, records around what is asked, and damage.
+mod chance;
+mod damage;
+mod image;
+mod limits;
+mod sizes;
+mod tables;
+mod words;
+
+pub use chance::SEED;
+pub use chance::below;
+pub use chance::mixed;
+pub use chance::once_in;
+pub use damage::damaged;
+pub use image::Record;
+pub use image::put_any_header;
+pub use image::put_header;
+pub use image::put_record;
+pub use limits::at_limit;
+pub use limits::edge;
+pub use limits::separation;
+pub use sizes::IMAGE_BYTES;
+pub use sizes::LIMIT;
+pub use sizes::LINE;
+pub use sizes::MOST;
+pub use sizes::TABLE_BYTES;
+pub use tables::ASTRIDE;
+pub use tables::AT_LIMITS;
+pub use tables::CROWDED;
+pub use tables::EQUALS;
+pub use tables::LOW;
+pub use tables::SCATTERED;
+pub use tables::any_site;
+pub use tables::made_table;
+pub use tables::site_astride;
+pub use words::Site;
