@@ -104,7 +104,9 @@ enum fms_refusal {
                                         aside is that of no station */
     FMS_TOO_FAR = 24,                /* distance: over 475 km */
     FMS_NOT_MOVABLE = 25,            /* move: fixed, or at or below channel 220; the position */
-    FMS_ASKED_STANDARD = 26          /* check, reason, arrange: standard neither 1 nor 2; judged after 16 and before 17 */
+    FMS_ASKED_STANDARD = 26,         /* check, reason, arrange: standard neither 1 nor 2; judged after 16 and before 17 */
+    FMS_RECORD_REPEATED = 27         /* a record agrees with an earlier one in channel, class, latitude and longitude; its
+                                        position, of the first such record; judged after 12 and before 13 */
 };
 
 /* The refusal's number in an answer; 0 where the question was granted. */

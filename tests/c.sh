@@ -1,7 +1,7 @@
 #!/bin/sh
 # c.sh: compiles examples/ask.c, as C and as C++, against include/fms.h and target/staticlib/libfms.a, holds what it prints
-# against examples/ask.out, and asks it about as many stations as fms.h has room for, all of them short. Skips with a line
-# where a compiler, an x86-64 machine or the archive is not to be had.
+# against examples/ask.out, and asks it about as many stations as fms.h has room for, all of them short, and about one that is
+# entered twice. Skips with a line where a compiler, an x86-64 machine or the archive is not to be had.
 set -u
 root=$(cd "$(dirname "$0")/.." && pwd -P)
 archive=$root/target/staticlib/libfms.a
@@ -70,6 +70,14 @@ answers_full() { # PROGRAM
 4082' ]
 }
 
+# One station under two ids, the second time fixed, and what a program answers on it before it looks at what is asked.
+printf '%b' 'FMS\0000\0001\0000\0000\0002' >"$room/twice.fms"
+printf '%b' '\0000\0000\0000\0007\0000\0322\0000\0000\0000\0000\0000\0001\0377\0377\0377\0377' >>"$room/twice.fms"
+printf '%b' '\0000\0000\0000\0011\0000\0322\0000\0001\0000\0000\0000\0001\0377\0377\0377\0377' >>"$room/twice.fms"
+answers_twice() { # PROGRAM
+    [ "$("$1" "$room/twice.fms" 220 8 4 270001 0 5 3)" = 'refused 27 1' ]
+}
+
 # Compiles ask.c with a compiler's words, and holds what it prints.
 passed=0 failed=0
 try() { # NAME COMPILER WORDS
@@ -84,6 +92,9 @@ try() { # NAME COMPILER WORDS
         failed=$((failed + 1))
     elif ! answers_full "$room/ask"; then
         printf 'FAILED: ask as %s has other answers on 4,000 stations\n' "$name"
+        failed=$((failed + 1))
+    elif ! answers_twice "$room/ask"; then
+        printf 'FAILED: ask as %s has another answer on a station that is entered twice\n' "$name"
         failed=$((failed + 1))
     else
         passed=$((passed + 1))

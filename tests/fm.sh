@@ -73,6 +73,18 @@ printf '%b' "$head1"'\0000\0000\0000\0007\0000\0372\0010\0000\0000\0000\0000\000
 printf '%b' "$head1"'\0000\0000\0000\0007\0000\0372\0000\0002\0000\0000\0000\0000\0000\0000\0000\0000' >bad10.fms
 printf '%b' "$head1"'\0000\0000\0000\0007\0000\0372\0000\0000\0377\0373\0341\0117\0000\0000\0000\0000' >bad11.fms
 printf '%b' "$head1"'\0000\0000\0000\0007\0000\0372\0000\0000\0000\0000\0000\0000\0000\0011\0343\0101' >bad12.fms
+# The third record is the first again, under another id and fixed; on channel 210 the second is the first again, and the third too; the
+# second is the first again, and the third has other flags; and one station by either longitude of the 180th meridian, no repeat.
+twin() { printf '%b' "\\0000\\0000\\0000\\00$1\\0000\\0$2\\0000\\000$3\\0000\\0002\\0075\\0006\\0377\\0373\\0357\\0223"; }
+other='\0000\0000\0000\0010\0000\0373\0000\0000\0000\0000\0000\0000\0000\0000\0000\0000'
+{ printf '%b' 'FMS\0000\0001\0000\0000\0003' && twin 07 372 0 && printf '%b' "$other" && twin 11 372 1; } >bad27.fms
+{ printf '%b' 'FMS\0000\0001\0000\0000\0003' && twin 07 322 0 && twin 11 322 0 && twin 12 322 0; } >bad27-low.fms
+{ printf '%b' 'FMS\0000\0001\0000\0000\0003' && twin 07 372 0 && twin 11 372 0 && twin 12 372 2; } >bad10-later.fms
+{
+    printf '%b' 'FMS\0000\0001\0000\0000\0002'
+    printf '%b' '\0000\0000\0000\0007\0000\0372\0000\0000\0000\0000\0000\0000\0000\0011\0343\0100'
+    printf '%b' '\0000\0000\0000\0010\0000\0372\0000\0000\0000\0000\0000\0000\0377\0366\0034\0300'
+} >ends.fms
 # As many stations as version 1 carries; with one more, as few as version 2 carries; as many as a table holds; and what no
 # version carries.
 crowd() { sh "$root/tests/crowd.sh" "$@"; }
@@ -167,7 +179,7 @@ Each stands in a line: position, id, channel, class, whether it may move, site.
 
   TABLE       a file of up to 4,000 stations; it is only read
 
-Refuses: a damaged table (1 to 12).
+Refuses: a damaged table (1 to 12, 27).
 SAYS
 try 0 distance --help <<'SAYS'
 fm distance: how many km two sites are apart
@@ -209,8 +221,8 @@ Standards:
      may with an exhibit of an allotment site that meets 73.207 in full (note to 73.203).
   add and move go by 1 always, so they may refuse with 20 what a study by 2 finds acceptable.
 
-Refuses: a damaged table (1 to 12), a channel outside 221 to 300 (13), a class that the zone does not
-  permit (16), a site out of range (17), an id left aside that no station has (23).
+Refuses: a damaged table (1 to 12, 27), a channel outside 221 to 300 (13), a class that the zone does
+  not permit (16), a site out of range (17), an id left aside that no station has (23).
 SAYS
 # Each command of the page: its line there, its own help in each way of asking, and an example of as many words.
 for command in check why arrange add withdraw move distance show; do
@@ -1014,6 +1026,16 @@ damage 9 bad9.fms 'record 0 of bad9.fms, counted from 0, has class code 8, over 
 damage 10 bad10.fms 'record 0 of bad10.fms, counted from 0, has flags 2, where only 0 and 1 have a meaning'
 damage 11 bad11.fms 'record 0 of bad11.fms, counted from 0, has latitude -270001 seconds, beyond 75 degrees (270000)'
 damage 12 bad12.fms 'record 0 of bad12.fms, counted from 0, has longitude 648001 seconds, beyond 180 degrees (648000)'
+damage 27 bad27.fms 'record 2 of bad27.fms, counted from 0, is station 9 (channel 250, class A) at 40-44-54N 073-59-09W, which is there already as station 7 in record 0'
+damage 27 bad27-low.fms 'record 1 of bad27-low.fms, counted from 0, is station 9 (channel 210, class A) at 40-44-54N 073-59-09W, which is there already as station 7 in record 0'
+damage 10 bad10-later.fms 'record 2 of bad10-later.fms, counted from 0, has flags 2, where only 0 and 1 have a meaning'
+try 1 add bad27.fms new.fms 0 220 C I 0 0 <<SAYS
+fm: refused with number 27: record 2 of bad27.fms, counted from 0, is station 9 (channel 250, class A) at 40-44-54N 073-59-09W, which is there already as station 7 in record 0. $anew
+SAYS
+try 1 move bad27.fms new.fms 8 220 --raw <<'SAYS'
+refused 27 2
+SAYS
+hold "either longitude of the 180th meridian: no repeat" [ "$("$fm" show ends.fms | grep -c '180-00-00[EW]$')" -eq 2 ]
 
 # ---- refusals of the question
 for channel in 220 301 0 65535; do
@@ -1284,7 +1306,7 @@ SAYS
     done
 }
 no_answer fm_check 'check one.fms 250 A II 0 0' 'echo hello' 'echo short 1' 'echo short 0; echo 7 1 2' 'echo short 1; echo 8 1 2' ':' \
-    'echo refused 27 0' 'echo refused 13' 'echo refused x 0'
+    'echo refused 27 0' 'echo refused 28 0' 'echo refused 13' 'echo refused x 0'
 no_answer fm_check 'check bad1-empty.fms 250 A II 0 0' 'echo refused 3 0' 'echo refused 5 0'
 answers fm_check 'exit 7'
 try 3 check one.fms 250 A II 0 0 <<'SAYS'

@@ -2,6 +2,7 @@
 
 use crate::naive::{degrees, image_of, km, Station};
 use crate::question::Proposal;
+use std::collections::HashSet;
 
 /// Numbers that look like chance: xorshift from a seed.
 pub struct Chance {
@@ -96,9 +97,26 @@ fn spread(chance: &mut Chance, count: usize, area: Area, least: i64, most: i64) 
     stations
 }
 
-/// A table of a region.
+/// Moves every station that repeats an earlier one, in channel, class, latitude and longitude, east by single seconds to where it
+/// repeats none. The two numbers of the 180th meridian are taken for one, so that no repeat comes of turning all longitudes.
+pub fn part(stations: &mut [Station]) {
+    let place = |station: &Station| {
+        let lon = station.lon.rem_euclid(1_296_000);
+        (station.channel, station.class, station.lat, lon)
+    };
+    let mut taken = HashSet::new();
+    for station in stations {
+        while !taken.insert(place(station)) {
+            station.lon = wrapped(i64::from(station.lon) + 1) as i32;
+        }
+    }
+}
+
+/// A table of a region, without repeats.
 pub fn region(seed: u64, count: usize) -> Vec<u8> {
-    image_of(&spread(&mut Chance::new(seed), count, REGION, 201, 300))
+    let mut stations = spread(&mut Chance::new(seed), count, REGION, 201, 300);
+    part(&mut stations);
+    image_of(&stations)
 }
 
 /// Proposals at sites of the region, each of a class that its zone permits.
@@ -180,30 +198,31 @@ impl Scene {
     }
 }
 
-/// A scene of up to `most` stations.
+/// A scene of up to `most` stations, without repeats.
 pub fn scene(chance: &mut Chance, manner: Manner, most: usize) -> Scene {
     let count = chance.from(0, most as i64) as usize;
     scene_of(chance, manner, count)
 }
 
-/// A scene of so many stations; of a few where they are to be lone.
+/// A scene of so many stations, without repeats; of a few where they are to be lone.
 pub fn scene_of(chance: &mut Chance, manner: Manner, count: usize) -> Scene {
+    let (mut stations, area) = placed(chance, manner, count);
+    part(&mut stations);
+    Scene { stations, area }
+}
+
+/// Stations in a manner, which may repeat each other, and the area around them.
+fn placed(chance: &mut Chance, manner: Manner, count: usize) -> (Vec<Station>, Area) {
     let lat = chance.from(-270_000, 270_000);
     let lon = chance.from(-648_000, 648_000);
     match manner {
         Manner::Region => {
             let area = Area::around(lat, lon, 18_000);
-            Scene {
-                stations: spread(chance, count, area, 201, 300),
-                area,
-            }
+            (spread(chance, count, area, 201, 300), area)
         }
         Manner::Cluster => {
             let area = Area::around(lat, lon, 4_000);
-            Scene {
-                stations: spread(chance, count, area, 201, 300),
-                area,
-            }
+            (spread(chance, count, area, 201, 300), area)
         }
         Manner::Lone => {
             let area = Area::around(lat, lon, 1_500);
@@ -212,7 +231,7 @@ pub fn scene_of(chance: &mut Chance, manner: Manner, count: usize) -> Scene {
             if chance.once_in(2) {
                 stations.iter_mut().for_each(|station| station.flags = 0);
             }
-            Scene { stations, area }
+            (stations, area)
         }
         Manner::Ends => {
             let lat = chance.one_of(&[-270_000, 0, 270_000]);
@@ -227,7 +246,7 @@ pub fn scene_of(chance: &mut Chance, manner: Manner, count: usize) -> Scene {
                     station.lon = -station.lon;
                 }
             }
-            Scene { stations, area }
+            (stations, area)
         }
         Manner::Low => {
             let area = Area::around(lat, lon, 1_000);
@@ -237,7 +256,7 @@ pub fn scene_of(chance: &mut Chance, manner: Manner, count: usize) -> Scene {
                     station.channel += chance.from(53, 54) as u32;
                 }
             }
-            Scene { stations, area }
+            (stations, area)
         }
         Manner::Limits => {
             let lat = if chance.once_in(3) { 0 } else { lat };
@@ -251,7 +270,7 @@ pub fn scene_of(chance: &mut Chance, manner: Manner, count: usize) -> Scene {
                 let more = chance.from(-1, 2);
                 set_off(chance, station, 10_000 * i64::from(km) - 5_000, more);
             }
-            Scene { stations, area }
+            (stations, area)
         }
         Manner::Level(standard) => {
             let lon = at_times_near_the_meridian(chance, lon);
@@ -270,7 +289,7 @@ pub fn scene_of(chance: &mut Chance, manner: Manner, count: usize) -> Scene {
                 let decimetres = 10_000 * i64::from(km) + chance.from(-4_500, 4_500);
                 set_off(chance, station, decimetres, 0);
             }
-            Scene { stations, area }
+            (stations, area)
         }
         Manner::Meridian => {
             let lat = chance.one_of(&[-270_000, 0, 270_000, lat, lat, lat]);
@@ -282,7 +301,7 @@ pub fn scene_of(chance: &mut Chance, manner: Manner, count: usize) -> Scene {
                     station.lon = chance.one_of(&[-648_000, 648_000]);
                 }
             }
-            Scene { stations, area }
+            (stations, area)
         }
     }
 }
@@ -346,10 +365,68 @@ pub const WRONG_COUNTS: [(u16, u16); 11] = [
     (2, 65_535),
 ];
 
-/// The refusals that a damaged table can get.
-pub const DAMAGES: std::ops::RangeInclusive<u32> = 1..=12;
+/// Makes a later station repeat an earlier one: its id stays its own, and its flag is left to chance.
+pub fn repeat(chance: &mut Chance, stations: &mut [Station], earlier: usize, later: usize) {
+    stations[later] = Station {
+        id: stations[later].id,
+        flags: chance.from(0, 1) as u32,
+        ..stations[earlier]
+    };
+}
 
-/// A table damaged in the way of one refusal; in a table without records some of these ways change nothing.
+/// In what one station differs from another that it all but repeats.
+#[derive(Clone, Copy, Debug, PartialEq, Eq)]
+pub enum Unlike {
+    Channel,
+    Class,
+    Lat,
+    Lon,
+    /// Longitudes that are the two numbers of the 180th meridian.
+    Ends,
+}
+
+/// Every such difference.
+pub const UNLIKE: [Unlike; 5] = [
+    Unlike::Channel,
+    Unlike::Class,
+    Unlike::Lat,
+    Unlike::Lon,
+    Unlike::Ends,
+];
+
+/// Makes a later station all but repeat an earlier one.
+pub fn all_but_repeat(
+    chance: &mut Chance,
+    stations: &mut [Station],
+    earlier: usize,
+    later: usize,
+    unlike: Unlike,
+) {
+    if unlike == Unlike::Ends {
+        stations[earlier].lon = chance.one_of(&[-648_000, 648_000]);
+    }
+    repeat(chance, stations, earlier, later);
+    let station = &mut stations[later];
+    // A coordinate a second or some thousands nearer to the middle, or mirrored in it.
+    let mut other = |z: i32| match z {
+        0 => chance.one_of(&[-5_000, -1, 1, 5_000]),
+        _ => chance.one_of(&[z - z.signum(), z - z.signum() * z.abs().min(5_000), -z]),
+    };
+    match unlike {
+        Unlike::Lat => station.lat = other(station.lat),
+        Unlike::Lon => station.lon = other(station.lon),
+        Unlike::Ends => station.lon = -station.lon,
+        Unlike::Channel => {
+            station.channel = 201 + (station.channel - 201 + chance.from(1, 99) as u32) % 100
+        }
+        Unlike::Class => station.class = (station.class + chance.from(1, 7) as u32) % 8,
+    }
+}
+
+/// The refusals that a damaged table can get.
+pub const DAMAGES: [u32; 13] = [1, 2, 3, 4, 5, 6, 7, 8, 9, 10, 11, 12, 27];
+
+/// A table damaged in the way of one refusal; in a table with no record, or with one, some of these ways change nothing.
 pub fn damaged(chance: &mut Chance, table: &[u8], number: u32) -> Vec<u8> {
     let mut table = table.to_vec();
     let count = (table.len() - 8) / 16;
@@ -401,10 +478,16 @@ pub fn damaged(chance: &mut Chance, table: &[u8], number: u32) -> Vec<u8> {
             let lat = chance.one_of(&[-270_001, 270_001, i32::MIN, i32::MAX]);
             put(&mut table, at + 8, &lat.to_be_bytes());
         }
-        _ => {
+        12 => {
             let lon = chance.one_of(&[-648_001, 648_001, i32::MIN, i32::MAX]);
             put(&mut table, at + 12, &lon.to_be_bytes());
         }
+        _ if at > 8 => {
+            let earlier = 8 + 16 * chance.from(0, (at as i64 - 8) / 16 - 1) as usize;
+            table.copy_within(earlier + 4..earlier + 16, at + 4);
+            table[at + 7] = chance.from(0, 1) as u8;
+        }
+        _ => {}
     }
     table
 }
@@ -418,4 +501,80 @@ fn put(table: &mut [u8], at: usize, bytes: &[u8]) {
 
 fn number_at(table: &[u8], at: usize) -> u32 {
     u32::from_be_bytes([table[at], table[at + 1], table[at + 2], table[at + 3]])
+}
+
+/// The search for repeats goes by a number of each record: the low byte of its channel and its class, the bytes of its latitude and
+/// those of its longitude, in each the lowest first, multiplied by one of these, and added up.
+const BY_KIND: u64 = 1_697_706_979;
+const BY_NORTH: u64 = 1_652_984_621;
+const BY_EAST: u64 = 1_440_846_997;
+
+/// What BY_EAST is to be multiplied by to give 1: its own three low bits are right, and each turn makes twice as many so.
+const BACK: u64 = {
+    let mut back = BY_EAST;
+    let mut turn = 0;
+    while turn < 5 {
+        back = back.wrapping_mul(2_u64.wrapping_sub(back.wrapping_mul(BY_EAST)));
+        turn += 1;
+    }
+    back
+};
+
+/// How many low bits the numbers of a slow table have in common, and which.
+pub const SHARED: u32 = 38;
+pub const COMMON: u64 = 0x4726;
+
+/// A table of so many stations, at most 4,000, without repeats, that is slow to search: by their numbers all go one way for as many
+/// steps as these have low bits in common.
+pub fn slow(count: usize) -> Vec<u8> {
+    let mut stations = Vec::new();
+    for channel in 201..=300 {
+        for class in 0..8 {
+            for (lat, lon) in sites_in_common(u64::from(channel % 256 + 256 * class)) {
+                let place = stations.len() as u32;
+                stations.push(Station {
+                    id: 10 * (place + 1),
+                    channel,
+                    class,
+                    flags: place % 2,
+                    lat,
+                    lon,
+                });
+            }
+        }
+    }
+    image_of(&stations[..count])
+}
+
+/// The sites at which the number of a channel and class has the bits in common.
+fn sites_in_common(kind: u64) -> Vec<(i32, i32)> {
+    let mut sites = Vec::new();
+    for north in first_bytes(270_000) {
+        for east in first_bytes(648_000) {
+            let number = kind * BY_KIND + north * BY_NORTH + east * BY_EAST;
+            // The last two bytes of a coordinate leave the low sixteen bits as they are.
+            if number as u16 != COMMON as u16 {
+                continue;
+            }
+            for more_north in (0..1 << 32).step_by(1 << 16) {
+                let missing = COMMON.wrapping_sub(number + more_north * BY_NORTH);
+                let more_east = missing.wrapping_mul(BACK) % (1 << SHARED);
+                let [lat, lon] = [north + more_north, east + more_east].map(coordinate);
+                if more_east < 1 << 32 && lat.abs() <= 270_000 && lon.abs() <= 648_000 {
+                    sites.push((lat, lon));
+                }
+            }
+        }
+    }
+    sites
+}
+
+/// The first two bytes, the lowest first, of the coordinates up to one and of those below 0 down to as far.
+fn first_bytes(most: i32) -> impl Iterator<Item = u64> {
+    (-most >> 16..=most >> 16).map(|first| u64::from((first as u16).swap_bytes()))
+}
+
+/// The coordinate whose bytes make a number, the lowest first.
+fn coordinate(number: u64) -> i32 {
+    (number as u32).swap_bytes() as i32
 }

@@ -23,7 +23,8 @@ impl Station {
 }
 
 /// A refusal's number and its extra number.
-struct Refusal {
+#[derive(Clone, Copy, Debug)]
+pub struct Refusal {
     number: u32,
     extra: usize,
 }
@@ -270,7 +271,10 @@ const LIMIT: usize = 4_000;
 const VERSIONS: [(u16, RangeInclusive<usize>); 2] = [(1, 0..=2_000), (2, 2_001..=LIMIT)];
 
 /// The stations of a table, or its refusal.
-fn judge(table: &[u8]) -> Result<Vec<Station>, Refusal> {
+pub type Judged = Result<Vec<Station>, Refusal>;
+
+/// What a table is.
+pub fn judge(table: &[u8]) -> Judged {
     if table.len() < 8 {
         return refuse(1, 0);
     }
@@ -325,7 +329,23 @@ fn judge(table: &[u8]) -> Result<Vec<Station>, Refusal> {
         }
         stations.push(station);
     }
+    if let Some(position) = first_repeat(&stations) {
+        return refuse(27, position);
+    }
     Ok(stations)
+}
+
+/// The position of the first station that agrees with an earlier one in channel, class, latitude and longitude.
+fn first_repeat(stations: &[Station]) -> Option<usize> {
+    (0..stations.len()).find(|&later| {
+        let one = &stations[later];
+        stations[..later].iter().any(|other| {
+            one.lat == other.lat
+                && one.lon == other.lon
+                && one.channel == other.channel
+                && one.class == other.class
+        })
+    })
 }
 
 /// The image of a list of stations, in the one version that carries its count.
@@ -424,8 +444,8 @@ fn position_of(stations: &[Station], id: u32) -> Option<usize> {
     stations.iter().position(|station| station.id == id)
 }
 
-fn added(table: &[u8], id: u32, channel: u32, proposal: &Proposal) -> Result<Vec<u8>, Refusal> {
-    let mut stations = judge(table)?;
+fn added(judged: Judged, id: u32, channel: u32, proposal: &Proposal) -> Result<Vec<u8>, Refusal> {
+    let mut stations = judged?;
     judge_asked(channel, channel, proposal)?;
     judge_site(proposal.lat, proposal.lon)?;
     if id == 0 {
@@ -446,8 +466,8 @@ fn added(table: &[u8], id: u32, channel: u32, proposal: &Proposal) -> Result<Vec
     Ok(image_of(&stations))
 }
 
-fn withdrawn(table: &[u8], id: u32) -> Result<Vec<u8>, Refusal> {
-    let mut stations = judge(table)?;
+fn withdrawn(judged: Judged, id: u32) -> Result<Vec<u8>, Refusal> {
+    let mut stations = judged?;
     let Some(position) = position_of(&stations, id) else {
         return refuse(23, 0);
     };
@@ -455,8 +475,8 @@ fn withdrawn(table: &[u8], id: u32) -> Result<Vec<u8>, Refusal> {
     Ok(image_of(&stations))
 }
 
-fn moved(table: &[u8], id: u32, channel: u32) -> Result<Vec<u8>, Refusal> {
-    let mut stations = judge(table)?;
+fn moved(judged: Judged, id: u32, channel: u32) -> Result<Vec<u8>, Refusal> {
+    let mut stations = judged?;
     judge_channel(channel)?;
     let Some(position) = position_of(&stations, id) else {
         return refuse(23, 0);
@@ -475,13 +495,13 @@ fn moved(table: &[u8], id: u32, channel: u32) -> Result<Vec<u8>, Refusal> {
 
 /// The stations of a table without the one that is left aside, where the proposal may be asked about; 0 leaves nobody aside.
 fn studied(
-    table: &[u8],
+    judged: Judged,
     first: u32,
     last: u32,
     proposal: &Proposal,
     terms: &Terms,
 ) -> Result<Vec<Station>, Refusal> {
-    let mut stations = judge(table)?;
+    let mut stations = judged?;
     judge_asked(first, last, proposal)?;
     judge_standard(terms.standard)?;
     judge_site(proposal.lat, proposal.lon)?;
@@ -497,12 +517,12 @@ fn studied(
 
 /// Why a proposal is blocked, by each station that it is short to, in table order.
 fn blockers(
-    table: &[u8],
+    judged: Judged,
     channel: u32,
     proposal: &Proposal,
     terms: &Terms,
 ) -> Result<Vec<[u32; 4]>, Refusal> {
-    let stations = studied(table, channel, channel, proposal, terms)?;
+    let stations = studied(judged, channel, channel, proposal, terms)?;
     let new = proposed(0, channel, proposal);
     Ok(stations
         .iter()
@@ -534,13 +554,13 @@ fn place_in(table: &[u8], id: u32) -> usize {
 }
 
 fn arranged(
-    table: &[u8],
+    judged: Judged,
     first: u32,
     last: u32,
     proposal: &Proposal,
     terms: &Terms,
 ) -> Result<Vec<u32>, Refusal> {
-    let stations = studied(table, first, last, proposal, terms)?;
+    let stations = studied(judged, first, last, proposal, terms)?;
     let mut rows = Vec::new();
     for channel in first..=last {
         let new = proposed(0, channel, proposal);
@@ -602,8 +622,13 @@ fn told(reason: Option<[u32; 4]>, table: &[u8], buffer: &mut [u32; 4]) -> u32 {
 
 /// Any question.
 pub fn ask(question: &Question, table: &[u8], lent: Lent) -> Answer {
+    ask_judged(question, table, judge(table), lent)
+}
+
+/// Any question, where it is known what the table is.
+pub fn ask_judged(question: &Question, table: &[u8], judged: Judged, lent: Lent) -> Answer {
     let outcome = match question {
-        Question::Read => judge(table).map(|stations| stations.len() as u32),
+        Question::Read => judged.map(|stations| stations.len() as u32),
         Question::Distance {
             lat1,
             lon1,
@@ -614,15 +639,15 @@ pub fn ask(question: &Question, table: &[u8], lent: Lent) -> Answer {
             id,
             channel,
             proposal,
-        } => delivered(added(table, *id, *channel, proposal), lent.image),
-        Question::Withdraw { id } => delivered(withdrawn(table, *id), lent.image),
-        Question::Move { id, channel } => delivered(moved(table, *id, *channel), lent.image),
+        } => delivered(added(judged, *id, *channel, proposal), lent.image),
+        Question::Withdraw { id } => delivered(withdrawn(judged, *id), lent.image),
+        Question::Move { id, channel } => delivered(moved(judged, *id, *channel), lent.image),
         Question::Check {
             channel,
             proposal,
             terms,
         } => {
-            let blockers = blockers(table, *channel, proposal, terms);
+            let blockers = blockers(judged, *channel, proposal, terms);
             delivered(blockers.map(checked), lent.rows)
         }
         Question::Arrange {
@@ -630,12 +655,12 @@ pub fn ask(question: &Question, table: &[u8], lent: Lent) -> Answer {
             last,
             proposal,
             terms,
-        } => delivered(arranged(table, *first, *last, proposal, terms), lent.rows),
+        } => delivered(arranged(judged, *first, *last, proposal, terms), lent.rows),
         Question::Reason {
             channel,
             proposal,
             terms,
-        } => blockers(table, *channel, proposal, terms)
+        } => blockers(judged, *channel, proposal, terms)
             .map(|blockers| told(reason(blockers), table, lent.reason)),
     };
     match outcome {

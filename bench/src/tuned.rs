@@ -12,7 +12,7 @@ const LINE: u16 = 2_000;
 const LIMIT: u16 = 4_000;
 
 /// The sixteen bytes of a station.
-type Record = [u8; RECORD];
+pub(crate) type Record = [u8; RECORD];
 
 /// Table A of §73.207(b)(1), one row of four for each pair of classes, in the document's order.
 const TABLE_A: [[u16; 4]; 36] = [
@@ -252,6 +252,15 @@ fn refusal(number: u32, extra: usize) -> u64 {
 
 /// The records of a table, or its refusal.
 fn judge<const BOX: bool>(table: &[u8]) -> Outcome<&[Record]> {
+    judge_by::<BOX>(table, first_repeat)
+}
+
+/// The same by any search for the position of the first record that repeats an earlier one.
+#[inline(always)]
+fn judge_by<const BOX: bool>(
+    table: &[u8],
+    first_repeat: impl Fn(&[Record]) -> Option<usize>,
+) -> Outcome<&[Record]> {
     let Some((header, records)) = table.split_first_chunk::<HEADER>() else {
         return Err(refusal(1, 0));
     };
@@ -279,10 +288,12 @@ fn judge<const BOX: bool>(table: &[u8]) -> Outcome<&[Record]> {
     } else {
         sound(records, &mut 0)
     };
-    if sound {
-        Ok(records)
-    } else {
-        Err(first_fault(records))
+    if !sound {
+        return Err(first_fault(records));
+    }
+    match first_repeat(records) {
+        Some(position) => Err(refusal(27, position)),
+        None => Ok(records),
     }
 }
 
@@ -349,6 +360,72 @@ fn fault(record: &Record, before: u32) -> u32 {
     } else {
         0
     }
+}
+
+/// Half of a record: id, channel, class and flags; or latitude and longitude.
+type Half = [u8; RECORD / 2];
+
+/// The slots where ways begin.
+const BEGINNINGS: usize = 1 << 12;
+
+/// The other slots: each half of a table has one at its place, so that two are a record's own. A power of two has room for all.
+const OWN: usize = 1 << 13;
+
+/// No half of a table.
+const EMPTY: u16 = u16::MAX;
+
+/// The position of the first record that agrees with an earlier one in channel, class, latitude and longitude. Each record is put,
+/// by the place of its first half, into the first empty slot of its way. A way begins at a slot that the record's number tells, and
+/// goes on from each record that it meets to one of that one's own two slots, by the bits of the number from the lowest on. So of
+/// two that agree the later meets the earlier.
+#[inline(never)]
+fn first_repeat(records: &[Record]) -> Option<usize> {
+    let (halves, _) = records.as_flattened().as_chunks::<{ RECORD / 2 }>();
+    let (_, sites) = halves.split_first()?;
+    // Known here, it spares every slot the question whether there is such a one.
+    assert!(sites.len() < OWN, "a table has at most 4,000 records");
+    let mut beginnings = [EMPTY; BEGINNINGS];
+    let mut own = [EMPTY; OWN];
+    let mut at = 0;
+    while at < sites.len() {
+        let number = number_of(&halves[at], &sites[at]);
+        let beginning = (number as u32 >> 20) as usize;
+        let mut met = usize::from(beginnings[beginning]);
+        if met >= sites.len() {
+            beginnings[beginning] = at as u16;
+            at += 2;
+            continue;
+        }
+        // Its bits are shifted down before each step, and not after it: so no copy of them is made. The highest is lost.
+        let (mut way, mut slot) = (number << 1, 0);
+        while let Some(site) = sites.get(met) {
+            if *site == sites[at] && alike(&halves[met], &halves[at]) {
+                return Some(at / 2);
+            }
+            way >>= 1;
+            slot = met | (way & 1) as usize;
+            met = usize::from(own[slot]);
+        }
+        own[slot] = at as u16;
+        at += 2;
+    }
+    None
+}
+
+/// The number of a record, of which its first half and its site are given; bytes that are only compared are read the lowest first.
+/// Of its low 32 bits the highest 12 are where its way begins.
+#[inline(always)]
+fn number_of([.., low, class, _]: &Half, [a, b, c, d, e, f, g, h]: &Half) -> u64 {
+    let kind = u64::from(u16::from_le_bytes([*low, *class]));
+    let north = u64::from(u32::from_le_bytes([*a, *b, *c, *d]));
+    let east = u64::from(u32::from_le_bytes([*e, *f, *g, *h]));
+    kind * 1_697_706_979 + north * 1_652_984_621 + east * 1_440_846_997
+}
+
+/// Whether the first halves of two records agree in channel and class.
+fn alike(one: &Half, other: &Half) -> bool {
+    let unlike = u64::from_be_bytes(*one) ^ u64::from_be_bytes(*other);
+    unlike as u32 >> 8 == 0
 }
 
 /// The checks 13 to 16 of what is asked.
@@ -1073,8 +1150,18 @@ pub fn ask_box(question: &Question, table: &[u8], lent: Lent) -> Answer {
     answer::<true>(question, table, lent)
 }
 
+/// Reads a table and does not look for repeats. Without the box.
+pub fn read_unsearched(table: &[u8]) -> Answer {
+    read_by(table, |_| None)
+}
+
+/// Reads a table by any search for repeats. Without the box.
+pub(crate) fn read_by(table: &[u8], first_repeat: impl Fn(&[Record]) -> Option<usize>) -> Answer {
+    told(judge_by::<false>(table, first_repeat).map(<[Record]>::len))
+}
+
 fn answer<const BOX: bool>(question: &Question, table: &[u8], lent: Lent) -> Answer {
-    let answer = match *question {
+    told(match *question {
         Question::Read => judge::<BOX>(table).map(<[Record]>::len),
         Question::Distance {
             lat1,
@@ -1105,8 +1192,12 @@ fn answer<const BOX: bool>(question: &Question, table: &[u8], lent: Lent) -> Ans
             ref proposal,
             terms,
         } => reason::<BOX>(table, channel, proposal, terms, lent.reason),
-    };
-    Answer::of(match answer {
+    })
+}
+
+/// The answer that tells an outcome.
+fn told(outcome: Outcome<usize>) -> Answer {
+    Answer::of(match outcome {
         Ok(count) => count as u64,
         Err(refusal) => refusal,
     })

@@ -2,10 +2,13 @@
 
 mod common;
 
-use common::{agree, agree_in, class_a, dense, zone_for, LIMIT, LINE, ROWS};
+use std::collections::HashSet;
+
+use common::{agree, agree_in, class_a, dense, held, held_in, zone_for, LIMIT, LINE, ROWS};
 use fms_bench::made::{
-    column_of, damaged, near_the_meridian, proposal_in, region, region_proposals, scene, scene_of,
-    standard, wrapped, Area, Chance, Manner, Scene, DAMAGES, DIFFERENCES, LEVEL, MANNERS,
+    all_but_repeat, column_of, damaged, near_the_meridian, part, proposal_in, region,
+    region_proposals, repeat, scene, scene_of, slow, standard, wrapped, Area, Chance, Manner,
+    Scene, COMMON, DAMAGES, DIFFERENCES, LEVEL, MANNERS, SHARED, UNLIKE,
 };
 use fms_bench::naive::{degrees, image_in, image_of, km, rounded, squared, Station};
 use fms_bench::question::{Answer, Proposal, Question, Terms};
@@ -158,7 +161,7 @@ fn long_scene(chance: &mut Chance, manner: Manner) -> Scene {
 }
 
 /// Stations of every manner: mostly few, at times many, or a long scene that is asked about from anywhere; at times all of one
-/// class, or on one channel, or with the highest id.
+/// class, or on one channel, or with the highest id. None repeats another.
 fn any_scene(chance: &mut Chance, turn: usize) -> Scene {
     let manner = MANNERS[turn % MANNERS.len()];
     let mut scene = match chance.from(1, 400) {
@@ -189,21 +192,24 @@ fn any_scene(chance: &mut Chance, turn: usize) -> Scene {
             last.id = u32::MAX;
         }
     }
+    part(&mut scene.stations);
     scene
 }
 
-/// The image of a scene; in one case of six damaged, in half of these twice.
-fn any_table(chance: &mut Chance, scene: &Scene) -> Vec<u8> {
+/// The image of a scene, in one case of six damaged, in half of these twice; and whether it may have a repeat.
+fn any_table(chance: &mut Chance, scene: &Scene) -> (Vec<u8>, bool) {
     let mut table = scene.table();
+    let mut repeats = false;
     if chance.once_in(6) {
-        for number in [chance.from(1, 12), chance.from(2, 12)] {
-            table = damaged(chance, &table, number as u32);
+        for number in [chance.one_of(&DAMAGES), chance.one_of(&DAMAGES[1..])] {
+            table = damaged(chance, &table, number);
+            repeats |= number == 27;
             if table.len() < 8 || chance.once_in(2) {
                 break;
             }
         }
     }
-    table
+    (table, repeats)
 }
 
 /// An Arrange of one channel: a wide range on a long table takes the naive desk too long.
@@ -221,11 +227,11 @@ fn made_questions() {
         word.parse().expect("FMS_QUESTIONS is to be a number")
     });
     let mut chance = Chance::new(11);
-    let (mut asked, mut granted, mut refused) = (0, 0, [0; 27]);
+    let (mut asked, mut granted, mut refused) = (0, 0, [0; 28]);
     let mut reasons = 0;
     'asking: for turn in 0.. {
         let scene = any_scene(&mut chance, turn);
-        let table = any_table(&mut chance, &scene);
+        let (table, repeats) = any_table(&mut chance, &scene);
         for mut question in questions(&mut chance, &scene) {
             if asked == count {
                 break 'asking;
@@ -233,7 +239,9 @@ fn made_questions() {
             if scene.stations.len() > 60 {
                 narrow(&mut question);
             }
-            match agree(&question, &table).answer {
+            let outcome = held(&question, &table);
+            assert!(repeats || !outcome.repeated(), "{question:?}");
+            match outcome.answer {
                 Answer::Granted(told) => {
                     granted += 1;
                     reasons += usize::from(matches!(question, Question::Reason { .. }) && told > 0);
@@ -274,7 +282,9 @@ fn damaged_tables() {
             };
             let table = damaged(&mut chance, &scene.table(), number);
             for question in questions(&mut chance, &scene) {
-                if let Answer::Refused { number: found, .. } = agree(&question, &table).answer {
+                let outcome = held(&question, &table);
+                assert!(number == 27 || !outcome.repeated(), "{question:?}");
+                if let Answer::Refused { number: found, .. } = outcome.answer {
                     met += usize::from(found == number);
                 }
             }
@@ -287,20 +297,276 @@ fn damaged_tables() {
 #[test]
 fn twice_damaged_tables() {
     let mut chance = Chance::new(14);
+    let mut repeated = 0;
     for turn in 0..4_000 {
         let scene = scene(&mut chance, MANNERS[turn % MANNERS.len()], 10);
         let mut table = scene.table();
-        for _ in 0..2 {
-            let number = chance.from(2, 12) as u32;
+        let numbers = [0; 2].map(|_| chance.one_of(&DAMAGES[1..]));
+        for number in numbers {
             table = damaged(&mut chance, &table, number);
         }
-        agree(&Question::Read, &table);
-        agree(
-            &Question::Withdraw {
-                id: id(&mut chance, &scene),
-            },
-            &table,
+        let withdraw = Question::Withdraw {
+            id: id(&mut chance, &scene),
+        };
+        for question in [Question::Read, withdraw] {
+            let found = held(&question, &table).repeated();
+            assert!(!found || numbers.contains(&27), "{question:?}");
+            repeated += usize::from(found);
+        }
+    }
+    assert!(repeated > 20, "27 was met {repeated} times");
+}
+
+/// The position of the first station that repeats an earlier one.
+fn first_repeat(stations: &[Station]) -> Option<u32> {
+    let mut seen = HashSet::new();
+    let mut repeats = stations
+        .iter()
+        .map(|one| !seen.insert((one.channel, one.class, one.lat, one.lon)));
+    repeats
+        .position(|repeats| repeats)
+        .map(|place| place as u32)
+}
+
+/// Asks every question about a scene, with a repeat or without: how many answers are 27, which they are exactly where the question
+/// is on a table and the table has a repeat.
+fn repeats_told(chance: &mut Chance, scene: &Scene) -> usize {
+    let table = scene.table();
+    let repeat = first_repeat(&scene.stations).map(|extra| Answer::Refused { number: 27, extra });
+    let mut told = 0;
+    for mut question in questions(chance, scene) {
+        if scene.stations.len() > 60 {
+            narrow(&mut question);
+        }
+        let outcome = held(&question, &table);
+        let expected = match question {
+            Question::Distance { .. } => None,
+            _ => repeat,
+        };
+        assert_eq!(outcome.repeated().then_some(outcome.answer), expected);
+        told += usize::from(outcome.repeated());
+    }
+    told
+}
+
+/// Two positions of so many stations, the earlier one first.
+fn two_of(chance: &mut Chance, count: usize) -> (usize, usize) {
+    let later = chance.from(1, count as i64 - 1);
+    (chance.from(0, later - 1) as usize, later as usize)
+}
+
+/// A scene of every manner with two stations at least.
+fn scene_of_some(chance: &mut Chance, turn: usize, most: usize) -> Scene {
+    let manner = MANNERS[turn % MANNERS.len()];
+    loop {
+        let scene = scene(chance, manner, most);
+        if scene.stations.len() > 1 {
+            return scene;
+        }
+    }
+}
+
+/// One repeat at every distance from its first, in tables of 300; and in long ones, where a table is read.
+#[test]
+fn repeats_at_every_distance() {
+    let mut chance = Chance::new(28);
+    let scene = scene_of(&mut chance, Manner::Region, 300);
+    for distance in 1..300 {
+        let earlier = chance.from(0, 299 - distance as i64) as usize;
+        let mut scene = scene.clone();
+        repeat(
+            &mut chance,
+            &mut scene.stations,
+            earlier,
+            earlier + distance,
         );
+        assert_eq!(repeats_told(&mut chance, &scene), 9);
+    }
+    for count in [LINE, LINE + 1, LIMIT] {
+        let stations = dense(count, 0);
+        for distance in (1..count).step_by(13).chain([2, count - 2, count - 1]) {
+            let earlier = chance.from(0, (count - 1 - distance) as i64) as usize;
+            let mut stations = stations.clone();
+            repeat(&mut chance, &mut stations, earlier, earlier + distance);
+            let refusal = Answer::Refused {
+                number: 27,
+                extra: (earlier + distance) as u32,
+            };
+            let read = held(&Question::Read, &image_of(&stations));
+            assert_eq!(read.answer, refusal);
+        }
+    }
+}
+
+/// Some repeats in a scene, also of repeats, and half of the time a further one of the same station.
+fn make_repeats(chance: &mut Chance, stations: &mut [Station]) {
+    for _ in 0..chance.from(1, 4) {
+        let (earlier, later) = two_of(chance, stations.len());
+        repeat(chance, stations, earlier, later);
+        if chance.once_in(2) {
+            let further = chance.from(earlier as i64 + 1, stations.len() as i64 - 1);
+            repeat(chance, stations, earlier, further as usize);
+        }
+    }
+}
+
+/// Several repeats, also three of a kind, in scenes of every manner.
+#[test]
+fn several_repeats() {
+    let mut chance = Chance::new(29);
+    let (scenes, mut low, mut unlike, mut three) = (4_000, 0, 0, 0);
+    for turn in 0..scenes {
+        let most = match turn % 400 {
+            0 => LIMIT,
+            1..20 => 300,
+            _ => chance.one_of(&[2, 3, 12, 40]),
+        };
+        let mut scene = scene_of_some(&mut chance, turn, most);
+        make_repeats(&mut chance, &mut scene.stations);
+        assert_eq!(repeats_told(&mut chance, &scene), 9);
+        let place = first_repeat(&scene.stations).expect("one was made") as usize;
+        let one = scene.stations[place];
+        let alike = |other: &&Station| {
+            (other.channel, other.class, other.lat, other.lon)
+                == (one.channel, one.class, one.lat, one.lon)
+        };
+        let all: Vec<&Station> = scene.stations.iter().filter(alike).collect();
+        low += usize::from(one.channel <= 220);
+        unlike += usize::from(all[0].flags != one.flags);
+        three += usize::from(all.len() > 2);
+    }
+    println!("{scenes} scenes: the first repeat is at or below 220 in {low}, has another flag in {unlike}, is one of three or more in {three}");
+    assert!([low, unlike, three].iter().all(|met| *met > scenes / 5));
+}
+
+/// Repeats beside a fault of the header or of a record: the fault is told, also where it stands behind them.
+#[test]
+fn repeats_beside_faults() {
+    let mut chance = Chance::new(30);
+    let (mut before, mut behind) = (0, 0);
+    for number in DAMAGES.into_iter().filter(|number| *number != 27) {
+        for turn in 0..200 {
+            let most = match turn % 50 {
+                0 => LIMIT,
+                _ => chance.one_of(&[2, 12, 40]),
+            };
+            let mut scene = scene_of_some(&mut chance, turn, most);
+            make_repeats(&mut chance, &mut scene.stations);
+            let repeat = first_repeat(&scene.stations).expect("one was made");
+            let table = damaged(&mut chance, &scene.table(), number);
+            for question in questions(&mut chance, &scene) {
+                if let Question::Distance { .. } = question {
+                    continue;
+                }
+                let Answer::Refused {
+                    number: found,
+                    extra,
+                } = held(&question, &table).answer
+                else {
+                    panic!("{question:?} is granted")
+                };
+                assert_eq!(found, number, "{question:?}");
+                before += usize::from(number >= 7 && extra < repeat);
+                behind += usize::from(number >= 7 && extra > repeat);
+            }
+        }
+    }
+    println!("{before} faults before the repeat, {behind} behind it");
+    assert!(before > 2_000 && behind > 2_000);
+}
+
+/// Stations that differ from an earlier one in one thing alone: there is no repeat, but where another one happens to be met.
+#[test]
+fn all_but_repeats() {
+    let mut chance = Chance::new(31);
+    for unlike in UNLIKE {
+        let (scenes, mut clear) = (800, 0);
+        for turn in 0..scenes {
+            let most = match turn % 200 {
+                0 => LIMIT,
+                1..10 => 300,
+                _ => chance.one_of(&[2, 3, 12]),
+            };
+            let mut scene = scene_of_some(&mut chance, turn, most);
+            let (earlier, later) = two_of(&mut chance, scene.stations.len());
+            all_but_repeat(&mut chance, &mut scene.stations, earlier, later, unlike);
+            clear += usize::from(repeats_told(&mut chance, &scene) == 0);
+        }
+        println!("{unlike:?}: {clear} of {scenes} scenes without a repeat");
+        assert!(clear > scenes * 49 / 50);
+    }
+}
+
+/// A full table of so many channels, classes, latitudes and longitudes in a row, each with each.
+fn crowd(chance: &mut Chance, [channels, classes, lats, lons]: [u32; 4]) -> Vec<Station> {
+    assert_eq!(channels * classes * lats * lons, LIMIT as u32);
+    let [first_channel, first_class] = [100, 8].map(|count| chance.from(0, count - 1) as u32);
+    let lat = chance.from(-270_000, 270_000 - i64::from(lats)) as i32;
+    let lon = chance.from(-648_000, 648_000 - i64::from(lons)) as i32;
+    (0..LIMIT as u32)
+        .map(|place| Station {
+            id: place + 1,
+            channel: 201 + (first_channel + place % channels) % 100,
+            class: (first_class + place / channels % classes) % 8,
+            flags: chance.from(0, 1) as u32,
+            lat: lat + (place / channels / classes % lats) as i32,
+            lon: lon + (place / channels / classes / lats) as i32,
+        })
+        .collect()
+}
+
+/// Full tables in which every record differs from many others in one thing alone, so that these come upon each other in a search.
+#[test]
+fn crowds() {
+    let mut chance = Chance::new(33);
+    let crowds = [
+        [100, 8, 5, 1],
+        [100, 8, 1, 5],
+        [100, 1, 8, 5],
+        [1, 8, 20, 25],
+        [1, 1, 4_000, 1],
+        [1, 1, 1, 4_000],
+        [1, 1, 50, 80],
+    ];
+    for counts in crowds.into_iter().cycle().take(10 * crowds.len()) {
+        let mut stations = crowd(&mut chance, counts);
+        let read = |stations: &[Station]| held(&Question::Read, &image_of(stations)).answer;
+        assert_eq!(read(&stations), Answer::Granted(LIMIT as u32));
+        let (earlier, later) = two_of(&mut chance, LIMIT);
+        repeat(&mut chance, &mut stations, earlier, later);
+        let refusal = Answer::Refused {
+            number: 27,
+            extra: later as u32,
+        };
+        assert_eq!(read(&stations), refusal);
+    }
+}
+
+/// The records of a slow table are right and without repeats, and their numbers have bits in common; with a repeat it is refused.
+#[test]
+fn slow_tables() {
+    for count in [2, 3, 40, LINE, LINE + 1, LIMIT] {
+        let table = slow(count);
+        let read = |table: &[u8]| held(&Question::Read, table).answer;
+        assert_eq!(read(&table), Answer::Granted(count as u32));
+        let (records, _) = table[8..].as_chunks::<16>();
+        for &[_, _, _, _, _, low, class, _, a, b, c, d, e, f, g, h] in records {
+            let [kind, north, east] = [[low, class, 0, 0], [a, b, c, d], [e, f, g, h]]
+                .map(|bytes| u128::from(u32::from_le_bytes(bytes)));
+            let number = 1_697_706_979 * kind + 1_652_984_621 * north + 1_440_846_997 * east;
+            assert_eq!(number % (1 << SHARED), COMMON.into());
+        }
+        let last = count - 1;
+        for earlier in [0, 1, SHARED as usize, last / 2, last - 1] {
+            let mut table = table.clone();
+            let from = 8 + 16 * earlier.min(last - 1);
+            table.copy_within(from + 4..from + 16, 8 + 16 * last + 4);
+            let refusal = Answer::Refused {
+                number: 27,
+                extra: last as u32,
+            };
+            assert_eq!(read(&table), refusal);
+        }
     }
 }
 
@@ -707,8 +973,8 @@ fn distances() {
 }
 
 /// Holds two movable stations, D apart, to each other: the distance of their sites, Check, the reason and Arrange by either
-/// standard and Add for either in a table of the other, and the Move of either to its own channel in a table of both. Says whether
-/// they are short by each standard.
+/// standard and Add for either in a table of the other, and the Move of either to its own channel in a table of both, which is
+/// refused where the second repeats the first. Says whether they are short by each standard.
 fn held_to_each_other(a: Station, b: Station, d: u32) -> [bool; 2] {
     let column = column_of(a.channel.abs_diff(b.channel));
     let separations = [1, 2].map(|standard| km(standard, a.class, b.class, column));
@@ -727,6 +993,10 @@ fn held_to_each_other(a: Station, b: Station, d: u32) -> [bool; 2] {
         false => Answer::Granted(40),
     };
     let both = image_of(&[a, b]);
+    let stayed = |other| match first_repeat(&[a, b]) {
+        Some(extra) => Answer::Refused { number: 27, extra },
+        None => changed(other),
+    };
     for (new, old, other) in [(a, b, 1), (b, a, 0)] {
         let Station {
             id, channel, class, ..
@@ -761,7 +1031,7 @@ fn held_to_each_other(a: Station, b: Station, d: u32) -> [bool; 2] {
         };
         assert_eq!(hold(add, &table).answer, changed(0));
         let stay = Question::Move { id, channel };
-        assert_eq!(hold(stay, &both).answer, changed(other));
+        assert_eq!(held_in(&stay, &both, 40, 0).answer, stayed(other));
     }
     separations.map(|r| d < r)
 }
@@ -779,7 +1049,7 @@ fn seconds_apart(lat1: i32, lat2: i32, decimetres: i64) -> i64 {
 #[test]
 fn pairs_across_the_meridian() {
     let mut chance = Chance::new(24);
-    let (pairs, mut across, mut short) = (50_000, 0, [0; 2]);
+    let (pairs, mut across, mut repeats, mut short) = (50_000, 0, 0, [0; 2]);
     for _ in 0..pairs {
         let lat1 = match chance.once_in(8) {
             true => chance.one_of(&[-270_000, 0, 270_000]),
@@ -815,12 +1085,13 @@ fn pairs_across_the_meridian() {
         let other = station(8, 240 + difference, second, lat2, numbered(west + apart));
         let d = rounded(squared(lat1, 0, lat2, apart as i32));
         across += usize::from(one.lon.abs_diff(other.lon) > 648_000);
+        repeats += usize::from(first_repeat(&[one, other]).is_some());
         for (short, found) in short.iter_mut().zip(held_to_each_other(one, other, d)) {
             *short += usize::from(found);
         }
     }
-    println!("{pairs} pairs, {across} with more than 648,000 between their numbers, {short:?} short by each standard");
-    assert!(across > pairs / 2);
+    println!("{pairs} pairs, {across} with more than 648,000 between their numbers, {short:?} short by each standard, {repeats} repeats");
+    assert!(across > pairs / 2 && (1..pairs / 500).contains(&repeats));
     assert!(short
         .iter()
         .all(|short| (pairs / 4..pairs * 3 / 4).contains(short)));

@@ -2,7 +2,7 @@
 
 mod common;
 
-use common::{agree, class_a, dense, table_of_one, LIMIT, LINE};
+use common::{agree, class_a, dense, held, table_of_one, LIMIT, LINE};
 use fms_bench::naive::{degrees, image_of, short, squared, Station};
 use fms_bench::question::{Answer, Proposal, Question, Terms};
 
@@ -62,7 +62,7 @@ fn p1_to_p10() {
     assert!(!is_short(A, 52, (0, 0), (0, 0)));
 }
 
-/// Two stations on 220 at one site never meet in a question: the table is read, a proposal on 220 is refused.
+/// Two stations on 220 at one site, of two classes, never meet in a question: the table is read, a proposal on 220 is refused.
 #[test]
 fn p11() {
     let station = Station {
@@ -74,7 +74,13 @@ fn p11() {
         lon: 0,
     };
     assert!(!short(&station, &station, 1) && !short(&station, &station, 2));
-    let table = image_of(&[station, Station { id: 8, ..station }]);
+    let other = Station {
+        id: 8,
+        class: C,
+        ..station
+    };
+    assert!(!short(&station, &other, 1) && !short(&station, &other, 2));
+    let table = image_of(&[station, other]);
     assert_eq!(agree(&Question::Read, &table).answer, Answer::Granted(2));
     let [check, reason] = [Question::check, Question::reason];
     for ask in [check, reason] {
@@ -88,9 +94,9 @@ fn p11() {
         );
     }
     let found = agree(&check(221, class_a(0, 0), BY_TABLE_A), &table);
-    assert_eq!(found.list(), [7, 0, 72, 8, 0, 72]);
+    assert_eq!(found.list(), [7, 0, 72, 8, 0, 165]);
     let found = agree(&reason(221, class_a(0, 0), BY_TABLE_A), &table);
-    assert_eq!(found.reason(), Some((8, [7, 0, 72, 1])));
+    assert_eq!(found.reason(), Some((24, [8, 0, 165, 1])));
 }
 
 #[test]
@@ -518,7 +524,7 @@ fn a_pair_by_either_standard() {
         (3_702, 114, Some(115), None),
         (2_960, 92, Some(115), None),
         (2_959, 91, Some(115), Some(92)),
-        (0, 0, Some(115), Some(92)),
+        (1, 0, Some(115), Some(92)),
     ] {
         let proposal = class_a(0, lon);
         for (terms, r) in [(BY_TABLE_A, by_table_a), (BY_LESSER, by_lesser)] {
@@ -569,4 +575,48 @@ fn arrangements_by_either_standard() {
     let table = image_of(&[movable(7, 260, 1_940), movable(9, 230, 4_940)]);
     assert_eq!(moves(&table, BY_TABLE_A), all_but(&[230, 259, 260, 261]));
     assert_eq!(moves(&table, BY_LESSER), all_but(&[260]));
+}
+
+/// a record with the channel, class, latitude and longitude of an earlier one is refused with 27 and its position, whatever
+/// its id and its flags; one that differs in any of the four is none, and the two numbers of the 180th meridian are different.
+#[test]
+fn no_repeats() {
+    let station = Station {
+        flags: 1,
+        lat: 1,
+        ..movable(7, 250, 648_000)
+    };
+    let read = |other: Station| {
+        let table = image_of(&[movable(5, 250, 0), station, movable(9, 240, 0), other]);
+        held(&Question::Read, &table).answer
+    };
+    let repeat = Station {
+        id: 11,
+        flags: 0,
+        ..station
+    };
+    let refusal = Answer::Refused {
+        number: 27,
+        extra: 3,
+    };
+    assert_eq!(read(repeat), refusal);
+    assert_eq!(read(Station { flags: 1, ..repeat }), refusal);
+    for other in [
+        Station {
+            channel: 251,
+            ..repeat
+        },
+        Station { class: C, ..repeat },
+        Station { lat: -1, ..repeat },
+        Station {
+            lon: 647_999,
+            ..repeat
+        },
+        Station {
+            lon: -648_000,
+            ..repeat
+        },
+    ] {
+        assert_eq!(read(other), Answer::Granted(4));
+    }
 }

@@ -10,8 +10,8 @@ use std::process::{Command, Stdio};
 
 use common::{class_a, dense, table_of_one, IMAGE, LIMIT, LINE, ROWS};
 use fms_bench::made::{
-    damaged, proposal_in, region, region_proposals, scene, Chance, Manner, Scene, DAMAGES, LEVEL,
-    MANNERS,
+    damaged, proposal_in, region, region_proposals, repeat, scene, Chance, Manner, Scene, DAMAGES,
+    LEVEL, MANNERS,
 };
 use fms_bench::naive::{self, image_in, image_of};
 use fms_bench::question::{Answer, Lent, Proposal, Question, Terms};
@@ -302,22 +302,23 @@ fn put_question(chance: &mut Chance, program: &str, scene: &Scene, input: &mut V
     true
 }
 
-/// An input for a program, at times cut, damaged, too long, or with bytes that mean nothing.
-fn input(chance: &mut Chance, program: &str, turn: usize) -> Vec<u8> {
+/// An input for a program, at times cut, damaged, too long, or with bytes that mean nothing; and whether its table may have a repeat.
+fn input(chance: &mut Chance, program: &str, turn: usize) -> (Vec<u8>, bool) {
     let most = match program {
         "fm_arrange" | "fm_study" => chance.one_of(&[0, 2, 12, 40]),
         _ => chance.one_of(&[0, 2, 12, 40, 300, LIMIT]),
     };
     let scene = scene(chance, MANNERS[turn % MANNERS.len()], most);
     let mut input = Vec::new();
+    let mut repeats = false;
     if put_question(chance, program, &scene, &mut input) {
-        let table = scene.table();
-        let number = chance.from(*DAMAGES.start() as i64, 8 * *DAMAGES.end() as i64) as u32;
-        input.extend(if DAMAGES.contains(&number) {
-            damaged(chance, &table, number)
-        } else {
-            table
-        });
+        let mut table = scene.table();
+        if chance.once_in(8) {
+            let number = chance.one_of(&DAMAGES);
+            table = damaged(chance, &table, number);
+            repeats = number == 27;
+        }
+        input.extend(table);
     }
     match chance.from(0, 31) {
         0 => input.truncate(chance.from(0, input.len() as i64) as usize),
@@ -327,7 +328,7 @@ fn input(chance: &mut Chance, program: &str, turn: usize) -> Vec<u8> {
         4 => input.resize(70_000 + chance.from(0, 70_000) as usize, 1),
         _ => {}
     }
-    input
+    (input, repeats)
 }
 
 /// Whether the programs are there and run; as `fm` sees it, by the answer to no input.
@@ -340,8 +341,8 @@ fn programs_run() -> bool {
     all
 }
 
-/// Holds all that a program prints of an input.
-fn held(program: &str, input: &[u8], name: &str) -> Vec<u8> {
+/// Holds all that a program prints of an input; 27 is told where the table may have a repeat alone.
+fn held_with(program: &str, input: &[u8], repeats: bool, name: &str) -> Vec<u8> {
     let told = run(program, input).expect("it starts");
     let wanted = printed(program, input);
     assert!(
@@ -351,7 +352,16 @@ fn held(program: &str, input: &[u8], name: &str) -> Vec<u8> {
         String::from_utf8_lossy(&told[..told.len().min(200)]),
         String::from_utf8_lossy(&wanted[..wanted.len().min(200)])
     );
+    assert!(
+        repeats || !told.starts_with(b"refused 27 "),
+        "{program}, {name}: a repeat that was not made"
+    );
     told
+}
+
+/// The same of an input whose table has no repeat.
+fn held(program: &str, input: &[u8], name: &str) -> Vec<u8> {
+    held_with(program, input, false, name)
 }
 
 /// Cut before its table or in the header of it, an input is refused with 1.
@@ -373,8 +383,8 @@ fn programs_print_what_the_paper_says() {
         let mut chance = Chance::new(0x5EED + program.len() as u64);
         let mut refused = 0;
         for turn in 0..inputs {
-            let input = input(&mut chance, program, turn);
-            let told = held(program, &input, &format!("input {turn}"));
+            let (input, repeats) = input(&mut chance, program, turn);
+            let told = held_with(program, &input, repeats, &format!("input {turn}"));
             refused += usize::from(told.starts_with(b"refused "));
         }
         println!("{program}: {inputs} inputs, {refused} refused");
@@ -556,6 +566,30 @@ fn tables_around_the_lines() {
                 longer.resize(length - head.len(), 0);
                 assert_eq!(hold(&longer, "an overlong input"), b"refused 6 0\n");
             }
+        }
+    }
+}
+
+/// A repeat at any place of a table: every program refuses it with the position of the later record.
+#[test]
+fn repeats_in_a_table() {
+    if !programs_run() {
+        return;
+    }
+    let mut chance = Chance::new(32);
+    for (program, head) in heads() {
+        for (count, earlier, later) in [
+            (2, 0, 1),
+            (40, 3, 30),
+            (LINE, 0, LINE - 1),
+            (LINE + 1, LINE - 1, LINE),
+            (LIMIT, 1, LIMIT - 1),
+        ] {
+            let mut stations = dense(count, 0);
+            repeat(&mut chance, &mut stations, earlier, later);
+            let input = [&head[..], &image_of(&stations)].concat();
+            let told = held_with(program, &input, true, "a repeat");
+            assert_eq!(told, format!("refused 27 {later}\n").as_bytes());
         }
     }
 }

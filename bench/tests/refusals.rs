@@ -2,7 +2,7 @@
 
 mod common;
 
-use common::{agree_in, class_a, dense, product, table_of_one, IMAGE, LIMIT, LINE, ROWS};
+use common::{agree_in, class_a, dense, held_in, product, table_of_one, IMAGE, LIMIT, LINE, ROWS};
 use fms_bench::made::WRONG_COUNTS;
 use fms_bench::naive::{image_in, image_of, Station};
 use fms_bench::question::{Answer, Proposal, Question, Terms};
@@ -10,7 +10,7 @@ use fms_bench::question::{Answer, Proposal, Question, Terms};
 /// The question is refused with this, whatever the room; nothing is written.
 fn refused(question: &Question, table: &[u8], number: u32, extra: u32) {
     for (image_room, rows_room) in [(IMAGE, ROWS), (16, 3), (0, 0)] {
-        let outcome = agree_in(question, table, image_room, rows_room);
+        let outcome = held_in(question, table, image_room, rows_room);
         assert_eq!(
             outcome.answer,
             Answer::Refused { number, extra },
@@ -436,6 +436,7 @@ fn refusal_13() {
             STATION,
             Station {
                 id: 8,
+                class: 1,
                 flags: 1,
                 ..STATION
             },
@@ -1156,7 +1157,8 @@ fn refusal_24() {
     }
 }
 
-/// Not movable: fixed, or at or below 220; before short and before the room, even on its own channel.
+/// Not movable: fixed, or at or below 220; before short and before the room, even on its own channel. Another one, at the site of
+/// the first and on its channel, is of another class.
 #[test]
 fn refusal_25() {
     let table = image_of(&[
@@ -1180,6 +1182,7 @@ fn refusal_25() {
         Station {
             id: 4,
             channel: 240,
+            class: 1,
             ..STATION
         },
         Station {
@@ -1290,4 +1293,222 @@ fn refusal_26() {
         }
     }
     studies_granted(250, class_a(SHORT, 0), 0, &two(), [3, 3 * 73, 8]);
+}
+
+/// Questions, each with the refusal that it gets on a table that begins with STATION, fixed, and has no id 9.
+fn questions_with_a_fault() -> Vec<(Question, u32)> {
+    let right = class_a(SPACED, 0);
+    let plain = Terms::new(0, 1);
+    let add = |id, channel, proposal| Question::Add {
+        id,
+        channel,
+        proposal,
+    };
+    let to = |id, channel| Question::Move { id, channel };
+    let mut questions = vec![
+        (add(9, 220, right), 13),
+        (add(0, 250, right), 18),
+        (add(7, 250, right), 19),
+        (add(9, 250, class_a(SHORT, 0)), 20),
+        (Question::Withdraw { id: 9 }, 23),
+        (to(7, 220), 13),
+        (to(9, 250), 23),
+        (to(7, 260), 25),
+        (Question::arrange(251, 250, right, plain), 13),
+    ];
+    let study = |channel, proposal, terms, number| {
+        studies(channel, proposal, terms).map(|question| (question, number))
+    };
+    questions.extend(study(301, right, plain, 13));
+    for (aside, standard, number) in [(9, 1, 23), (0, 0, 26), (9, 3, 26)] {
+        questions.extend(study(250, right, Terms::new(aside, standard), number));
+    }
+    let wrong = [(8, 3, 0), (0, 0, 0), (1, 3, 0), (0, 3, 270_001)];
+    for ((station_class, zone, lat), number) in wrong.into_iter().zip(14..) {
+        let proposal = Proposal {
+            station_class,
+            zone,
+            lat,
+            lon: 0,
+        };
+        questions.extend(study(250, proposal, plain, number));
+        questions.push((add(9, 250, proposal), number));
+    }
+    questions
+}
+
+/// Stations with the ids 7, 17, 27 and so on in the place of their own.
+fn numbered(stations: &[Station]) -> Vec<Station> {
+    let ids = (STATION.id..).step_by(10);
+    ids.zip(stations)
+        .map(|(id, &station)| Station { id, ..station })
+        .collect()
+}
+
+/// A dense table in which a later station repeats an earlier one, and is fixed.
+fn repeating(count: usize, earlier: usize, later: usize) -> Vec<u8> {
+    let mut stations = dense(count, 0);
+    stations[later] = Station {
+        id: stations[later].id,
+        flags: 1,
+        ..stations[earlier]
+    };
+    image_of(&stations)
+}
+
+/// A record that agrees with an earlier one in channel, class, latitude and longitude: the position of the first that does. Flags
+/// and ids are no matter.
+#[test]
+fn refusal_27() {
+    let [a, b, c] = [(250, 0), (240, 50_000), (230, -50_000)].map(|(channel, lat)| Station {
+        channel,
+        lat,
+        ..STATION
+    });
+    for (stations, position) in [
+        (&[a, a][..], 1),
+        (&[a, a, a], 1),
+        (&[a, b, a], 2),
+        (&[a, b, b], 2),
+        (&[a, b, c, a], 3),
+        (&[a, b, a, b], 2),
+        (&[a, b, b, a], 2),
+        (&[a, b, c, c, a, b, a], 3),
+    ] {
+        let mut stations = numbered(stations);
+        table_refused(&image_of(&stations), 27, position);
+        for place in 0..stations.len() {
+            stations[place].flags = 1;
+            table_refused(&image_of(&stations), 27, position);
+        }
+        for station in &mut stations[position as usize..] {
+            station.id += 1_000_000_000;
+        }
+        table_refused(&image_of(&stations), 27, position);
+    }
+    for (count, earlier, later) in [
+        (LINE, 0, LINE - 1),
+        (LINE, LINE - 2, LINE - 1),
+        (LINE + 1, 0, LINE),
+        (LIMIT, 0, 1),
+        (LIMIT, LINE - 1, LINE),
+        (LIMIT, 1, LIMIT - 1),
+        (LIMIT, LIMIT - 2, LIMIT - 1),
+    ] {
+        table_refused(&repeating(count, earlier, later), 27, later as u32);
+    }
+}
+
+/// It comes before all that a question can be refused with for itself.
+#[test]
+fn refusal_27_before_the_question() {
+    let fixed = Station {
+        flags: 1,
+        ..STATION
+    };
+    let other = Station {
+        channel: 240,
+        lat: 50_000,
+        ..STATION
+    };
+    let [without, with] = [&[fixed, other][..], &[fixed, other, STATION]]
+        .map(|stations| image_of(&numbered(stations)));
+    for (question, number) in questions_with_a_fault() {
+        refused(&question, &without, number, 0);
+        refused(&question, &with, 27, 2);
+    }
+    for id in [1, 40_001] {
+        refused(&add(id, SPACED), &table_of(LIMIT), 21, 0);
+        refused(&add(id, SPACED), &repeating(LIMIT, 0, 9), 27, 9);
+    }
+}
+
+/// Also at or below 220, and at the ends of the ranges.
+#[test]
+fn refusal_27_everywhere() {
+    for channel in [201, 220, 221, 300] {
+        for (class, lat, lon) in [
+            (0, 0, 0),
+            (7, 270_000, 648_000),
+            (3, -270_000, -648_000),
+            (5, 270_000, -648_000),
+        ] {
+            let station = Station {
+                channel,
+                class,
+                lat,
+                lon,
+                ..STATION
+            };
+            let table = image_of(&numbered(&[station, STATION, station]));
+            table_refused(&table, 27, 2);
+        }
+    }
+}
+
+/// Faults of the header come before it, and those of every record, also of one behind the repeat.
+#[test]
+fn refusal_27_after_the_records() {
+    let repeat = image_of(&numbered(&[STATION; 2]));
+    table_refused(&repeat[..7], 1, 0);
+    for (at, byte, number) in [(0, b'X', 2), (4, 3, 3), (5, 1, 4), (4, 2, 5), (7, 3, 6)] {
+        table_refused(&put(&repeat, &[(at, &[byte])]), number, 0);
+    }
+    let far = [270_001i32, 648_001].map(i32::to_be_bytes);
+    let faults: [(usize, &[u8], u32); 6] = [
+        (0, &[0; 4], 7),
+        (4, &[1, 45], 8),
+        (6, &[8], 9),
+        (7, &[2], 10),
+        (8, &far[0], 11),
+        (12, &far[1], 12),
+    ];
+    for (offset, bytes, number) in faults {
+        // In each record of four, of which the second repeats the first, and in the last of a full table.
+        let four = image_of(&numbered(&[STATION; 4]));
+        let full = repeating(LIMIT, 0, 1);
+        for (table, positions) in [(four, 0..4), (full, LIMIT - 1..LIMIT)] {
+            for position in positions {
+                let fault = put(&table, &[(8 + 16 * position + offset, bytes)]);
+                table_refused(&fault, number, position as u32);
+            }
+        }
+    }
+}
+
+/// Stations that differ in one of the four alone are no repeats: by one, by a higher bit, by the sign, also where that makes one
+/// meridian of two numbers.
+#[test]
+fn no_refusal_27() {
+    let station = Station {
+        channel: 220,
+        class: 7,
+        lat: 270_000,
+        lon: 648_000,
+        ..STATION
+    };
+    let changes: [fn(&mut Station); 10] = [
+        |other| other.channel += 1,
+        |other| other.channel -= 16,
+        |other| other.class -= 1,
+        |other| other.class -= 4,
+        |other| other.lat -= 1,
+        |other| other.lat -= 65_536,
+        |other| other.lat = -other.lat,
+        |other| other.lon -= 1,
+        |other| other.lon -= 65_536,
+        |other| other.lon = -other.lon,
+    ];
+    let mut all = vec![station];
+    for change in changes {
+        let mut other = station;
+        change(&mut other);
+        for pair in [[station, other], [other, station]] {
+            let table = image_of(&numbered(&pair));
+            read(&table, 2);
+            granted(&Question::Withdraw { id: 7 }, &table, 24);
+        }
+        all.push(other);
+    }
+    read(&image_of(&numbered(&all)), all.len());
 }

@@ -2,21 +2,24 @@
 //! again from `measured`, so that callgrind can count them alone.
 
 use fms_bench::question::{Answer, Ask, Lent, Proposal, Question, Terms};
-use fms_bench::{fms, made, naive, tuned};
+use fms_bench::{double_loop, fms, made, naive, tuned};
 use std::hint::black_box;
 use std::process::exit;
 
 const USAGE: &str = "usage: measure product|tuned|tuned-box|naive \
     read|check|check-aside|check-lesser|reason|reason-aside|reason-lesser|arrange|arrange-aside|arrange-lesser|\
-    arrange-one-by-one|add|withdraw|move 250|2000|4000 SITES";
+    arrange-one-by-one|add|withdraw|move 250|2000|4000|slow SITES\n       \
+    measure unsearched|double-loop read 250|2000|4000|slow SITES";
 
-/// Who answers.
-fn named(who: &str) -> Option<Ask> {
-    match who {
-        "product" => Some(fms::ask),
-        "tuned" => Some(tuned::ask),
-        "tuned-box" => Some(tuned::ask_box),
-        "naive" => Some(naive::ask),
+/// Who answers. The tuned program also reads without a search for repeats, and with a double loop for it.
+fn named(who: &str, what: &str) -> Option<Ask> {
+    match (who, what) {
+        ("product", _) => Some(fms::ask),
+        ("tuned", _) => Some(tuned::ask),
+        ("tuned-box", _) => Some(tuned::ask_box),
+        ("naive", _) => Some(naive::ask),
+        ("unsearched", "read") => Some(|_, table, _| tuned::read_unsearched(table)),
+        ("double-loop", "read") => Some(|_, table, _| double_loop::read(table)),
         _ => None,
     }
 }
@@ -156,15 +159,16 @@ impl Workload {
         let [who, what, size, sites] = words else {
             return None;
         };
-        let ask = named(who)?;
-        let size = match &size[..] {
-            "250" => 250,
-            "2000" => 2_000,
-            "4000" => 4_000,
+        let ask = named(who, what)?;
+        // Add has room for one more station.
+        let room = usize::from(what == "add");
+        let table = match &size[..] {
+            "250" => made::region(1, 250 - room),
+            "2000" => made::region(1, 2_000 - room),
+            "4000" => made::region(1, 4_000 - room),
+            "slow" => made::slow(4_000 - room),
             _ => return None,
         };
-        // Add has room for one more station.
-        let table = made::region(1, size - usize::from(what == "add"));
         let sites = made::region_proposals(2, sites.parse().ok()?);
         Some(Workload {
             ask,

@@ -1,9 +1,11 @@
 //! Questions asked with lent buffers of a chosen room, and everything that came of them.
 #![allow(dead_code)]
 
-use fms_bench::naive::{image_of, Station};
+use std::cell::RefCell;
+
+use fms_bench::naive::{image_of, Judged, Station};
 use fms_bench::question::{Answer, Ask, Lent, Proposal, Question};
-use fms_bench::{fms, naive, tuned};
+use fms_bench::{double_loop, fms, naive, tuned};
 
 /// What stands in a buffer before it is lent.
 const BYTE: u8 = 0xA5;
@@ -30,6 +32,11 @@ pub struct Outcome {
 }
 
 impl Outcome {
+    /// The table was refused for a repeat.
+    pub fn repeated(&self) -> bool {
+        matches!(self.answer, Answer::Refused { number: 27, .. })
+    }
+
     /// Nothing was written, in the lent part or beyond.
     pub fn untouched(&self) -> bool {
         let mut numbers = self.rows.iter().chain(&self.reason);
@@ -111,6 +118,24 @@ pub fn product(question: &Question, table: &[u8], image_room: usize, rows_room: 
     outcome
 }
 
+thread_local! {
+    /// The last two tables about which the naive desk was asked, and what they are.
+    static KNOWN: RefCell<Vec<(Vec<u8>, Judged)>> = const { RefCell::new(Vec::new()) };
+}
+
+/// What a table is by the naive desk, which judges it once for many questions: a long one takes it long.
+fn judged(table: &[u8]) -> Judged {
+    KNOWN.with_borrow_mut(|known| {
+        if let Some((_, judged)) = known.iter().find(|(one, _)| one == table) {
+            return judged.clone();
+        }
+        let judged = naive::judge(table);
+        known.truncate(1);
+        known.insert(0, (table.to_vec(), judged.clone()));
+        judged
+    })
+}
+
 /// What the naive desk makes of it.
 pub fn reference(
     question: &Question,
@@ -118,7 +143,8 @@ pub fn reference(
     image_room: usize,
     rows_room: usize,
 ) -> Outcome {
-    outcome(naive::ask, question, table, image_room, rows_room)
+    let ask: Ask = |question, table, lent| naive::ask_judged(question, table, judged(table), lent);
+    outcome(ask, question, table, image_room, rows_room)
 }
 
 /// The tuned desks.
@@ -128,7 +154,7 @@ const TUNED: [(&str, Ask); 2] = [
 ];
 
 /// Holds the library and the tuned desks against the naive one, with so much room.
-pub fn agree_in(question: &Question, table: &[u8], image_room: usize, rows_room: usize) -> Outcome {
+pub fn held_in(question: &Question, table: &[u8], image_room: usize, rows_room: usize) -> Outcome {
     let expected = reference(question, table, image_room, rows_room);
     let hold = |who: &str, found: Outcome| {
         assert!(
@@ -143,16 +169,23 @@ pub fn agree_in(question: &Question, table: &[u8], image_room: usize, rows_room:
     for (who, ask) in TUNED {
         hold(who, outcome(ask, question, table, image_room, rows_room));
     }
+    if let Question::Read = question {
+        assert_eq!(
+            double_loop::read(table),
+            expected.answer,
+            "by a double loop"
+        );
+    }
     expected
 }
 
 /// The same with ample room, with exactly the room that is needed, with more, and with one place less and none.
-pub fn agree(question: &Question, table: &[u8]) -> Outcome {
-    let ample = agree_in(question, table, table.len() + 40, ROWS);
+pub fn held(question: &Question, table: &[u8]) -> Outcome {
+    let ample = held_in(question, table, table.len() + 40, ROWS);
     if let Answer::Granted(count) = ample.answer {
         let need = question.room(count);
         for room in [need, need + 1, need.saturating_sub(1), 0] {
-            let tight = agree_in(question, table, room, room);
+            let tight = held_in(question, table, room, room);
             if room < need {
                 assert_eq!(
                     tight.answer,
@@ -170,6 +203,22 @@ pub fn agree(question: &Question, table: &[u8]) -> Outcome {
         assert!(ample.untouched());
     }
     ample
+}
+
+/// What came of a question on a table that was to have no repeat.
+fn without_repeat(outcome: Outcome) -> Outcome {
+    assert!(!outcome.repeated(), "a repeat that was not made");
+    outcome
+}
+
+/// Holds all against the naive desk, with so much room, on a table without repeats.
+pub fn agree_in(question: &Question, table: &[u8], image_room: usize, rows_room: usize) -> Outcome {
+    without_repeat(held_in(question, table, image_room, rows_room))
+}
+
+/// The same with ample room, with exactly the room that is needed, with more, and with one place less and none.
+pub fn agree(question: &Question, table: &[u8]) -> Outcome {
+    without_repeat(held(question, table))
 }
 
 /// A proposal in zone 3 of class A at a site.

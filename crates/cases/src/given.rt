@@ -1,5 +1,5 @@
 // Cases with their answers: an id left aside in check, arrange and reason; of reason each column, equals and refusals; of read the
-// versions and their counts; across the 180th meridian; and by a standard.
+// versions and their counts; across the 180th meridian; by a standard; and tables with a station entered twice.
 use super::chosen::standard_case;
 use super::chosen::station_class;
 use super::headers::header_of;
@@ -14,6 +14,9 @@ use super::question::CHECK;
 use super::question::Question;
 use super::question::READ;
 use super::question::REASON;
+use super::twice::put_both_ends;
+use super::twice::put_twice;
+use super::twice::twice_case;
 use scenes::Record;
 use scenes::Site;
 use scenes::put_any_header;
@@ -31,7 +34,7 @@ pub struct Given {
 }
 
 // How many there are.
-pub const GIVEN: u32 = 90;
+pub const GIVEN: u32 = 96;
 
 // The bytes of their longest table.
 pub const GIVEN_BYTES: usize = 72;
@@ -43,7 +46,14 @@ pub const UNTOLD: u32 = 4_294_967_295;
 pub(crate) const REFUSED: u64 = 4_294_967_296;
 
 // Writes a station of a class on the equator.
-fn put_on_equator(table: &mut [u8], position: usize, id: u32, channel: u32, class: u32, lon: u32)
+pub(crate) fn put_on_equator(
+    table: &mut [u8],
+    position: usize,
+    id: u32,
+    channel: u32,
+    class: u32,
+    lon: u32,
+)
     requires { ⌜ position ≤ mostRecords ⌝ }
 {
     let record = Record {
@@ -67,7 +77,8 @@ fn put_equals(table: &mut [u8], class: u32) {
 }
 
 // Writes the table of a case, and gives its length: one station of the paper's, four, four of which the last has no class, one nine
-// seconds east of the 180th meridian or one second west of it, or none.
+// seconds east of the 180th meridian or one second west of it, four of which two are entered twice, two on the 180th meridian, or
+// none.
 pub fn put_given_table(table: &mut [u8], k: u32) -> usize {
     match k {
         0..=11 => {
@@ -93,6 +104,18 @@ pub fn put_given_table(table: &mut [u8], k: u32) -> usize {
         86..=88 => {
             put_seven(table, 240, station_class(k), 0);
             24
+        }
+        90..=93 => {
+            put_twice(table, 0);
+            72
+        }
+        94 => {
+            put_twice(table, 8);
+            72
+        }
+        95 => {
+            put_both_ends(table);
+            40
         }
         49..=63 => {
             let lon = if k < 62 { 4_294_319_305 } else { 647_999 };
@@ -173,7 +196,7 @@ pub(crate) fn named(
 
 // The cases in a row: twelve of reason by the paper's separations, and six beside its one station; four each of check and arrange
 // with an id left aside; six of reason beside four stations; one of each where the station left aside is faulty; the headers;
-// those across the 180th meridian; and those by a standard.
+// those across the 180th meridian; those by a standard; and those of a station entered twice.
 pub fn given_case(k: u32) -> Given {
     match k {
         12 => named(250, 0, 3_702, 0, 8, [7, 114, 115, 0]),
@@ -202,6 +225,7 @@ pub fn given_case(k: u32) -> Given {
         35..=48 => silent(READ, 0, 0, 0, header_of(k).answer),
         49..=63 => across_case(k),
         64..=89 => standard_case(k),
+        90..=95 => twice_case(k),
         _ => {
             let told = [7, 0, paper_separation(k), paper_column(k)];
             named(paper_channel(k), paper_class(k), 0, 0, 8, told)

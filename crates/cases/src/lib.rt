@@ -8,6 +8,7 @@ mod paper;
 mod question;
 mod runs;
 mod sides;
+mod twice;
 
 pub use asking::first_id;
 pub use asking::made_question;

@@ -16,12 +16,14 @@ use scenes::LIMIT;
 use scenes::LINE;
 use scenes::LOW;
 use scenes::MOST;
+use scenes::REPEATING;
 use scenes::Record;
 use scenes::SCATTERED;
 use scenes::Site;
 use scenes::below;
 use scenes::damaged;
 use scenes::made_table;
+use scenes::repeat_some;
 ghost use Prim.Native.Nat.{_≤_};
 ghost use Rattle.scenes.specs.Sizes.{mostRecords, room};
 
@@ -35,7 +37,7 @@ const ALL: u32 = 9;
 const MOVE_OR_WITHDRAW: u32 = 10;
 
 // How many runs there are.
-pub const RUNS: u32 = 23;
+pub const RUNS: u32 = 26;
 
 // A run: how many cases, which question, at least how many records and how many more, their style, damaged or not.
 pub struct Run {
@@ -177,7 +179,7 @@ pub fn run_of(k: u32) -> Run {
             damage: false,
         },
         // All questions across the 180th meridian.
-        _ => Run {
+        22 => Run {
             cases: 7_000,
             question: ALL,
             fewest: 0,
@@ -185,6 +187,24 @@ pub fn run_of(k: u32) -> Run {
             style: ASTRIDE,
             damage: false,
         },
+        // Tables in which records repeat others; the same, damaged; and large ones.
+        23 => Run {
+            cases: 12_000,
+            question: ALL,
+            fewest: 1,
+            more: 10,
+            style: REPEATING,
+            damage: false,
+        },
+        24 => Run {
+            cases: 6_000,
+            question: ALL,
+            fewest: 1,
+            more: 5,
+            style: REPEATING,
+            damage: true,
+        },
+        _ => around(LIMIT, 60, ALL_BUT_ARRANGE, REPEATING, false),
     }
 }
 
@@ -233,6 +253,15 @@ fn asked_record(q: Question) -> Record {
     }
 }
 
+// Makes records of a table of n repeat others where a run is for that.
+fn repeat_in(state: &mut u64, run: Run, n: u32, table: &mut [u8])
+    requires { ⌜ n ≤ mostRecords ⌝ }
+{
+    if run.style == REPEATING {
+        repeat_some(state, table, n);
+    }
+}
+
 // Writes the table of a case, and gives its length.
 pub fn case_table(
     state: &mut u64,
@@ -245,12 +274,13 @@ pub fn case_table(
     requires { ⌜ n ≤ mostRecords ⌝ }
     ensures { λ r. ⌜ r ≤ room ⌝ }
 {
-    let style = if run.style == ASTRIDE {
-        below(state, ASTRIDE)
-    } else {
+    let style = if run.style < ASTRIDE {
         run.style
+    } else {
+        below(state, ASTRIDE)
     };
     let length = made_table(state, asked_record(q), id, n as usize, style, table);
+    repeat_in(state, run, n, table);
     if run.damage {
         return damaged(state, table, n, length);
     }

@@ -8,7 +8,6 @@ use Prim.Native.Nat.{ℕ, _+_, _≤_, _<_}
 use native.Mathlib.Numerals.{add-one}
 use native.Mathlib.Omega.{arith}
 use native.Mathlib.Decide.{ℕ-discrete}
-use lib.IntN.{ℤ}
 use lib.Dec.{leb}
 use lib.ListN.{length, drop, getD}
 use lib.Seq.{drop-cons}
@@ -22,18 +21,17 @@ use Rattle.ground.proofs.Firsts.{first-found, first-past, some-first}
 use Rattle.refusals.specs.declared.Refusal.{Refusal}
 use Rattle.refusals.specs.Faults.{Fault, refusal, AskedChannel, IdZero, IdPresent, Short, TableFull, IdAbsent, NotMovable}
 use Rattle.versions.specs.Version.{limit}
-use Rattle.stations.specs.Image.{then}
 use Rattle.stations.specs.Lists.{hasId, onto, insert, without, rechannel, Apart}
 use Rattle.stations.specs.declared.Station.{Station}
 use Rattle.stations.specs.declared.Verdict.{Verdict}
-use Rattle.stations.specs.declared.Verdict.the-variants.{Sound, Faulty}
 use Rattle.stations.proofs.Ids.{Ascends, with-one, with-found, one-id}
+use Rattle.stations.proofs.Found.{Found, sound, fault}
 use Rattle.stations.proofs.Changed.{without-none, in-without}
-use Rattle.desk.specs.Asked.{classFault, kindFault, siteFault, askedFault}
+use Rattle.desk.proofs.Asked.{found-asked}
 use Rattle.finding.specs.Conflicts.{shortTo, conflicts}
 use Rattle.changes.specs.Changes.{add, move, Decision, allow, refuse, not-for, onVerdict, entered, decide}
 use Rattle.changes.specs.declared.Newcomer.{Newcomer}
-use Rattle.changes.proofs.Grants.{denied, askedOf, AddPasses, added, MovePasses, moved}
+use Rattle.changes.proofs.Grants.{denied, AddPasses, added, MovePasses, moved}
 
 -- ---- no other record conflicts
 
@@ -149,34 +147,10 @@ extras e = cc
 granted : (rs : List Station) (f : Refusal) → allow rs ≡ refuse f → ⊥
 granted rs f e = denied f rs (sym e)
 
--- what is asked for is refused with a number below 18
-abbrev Low : Verdict → Type 0
-Low Sound = Unit {0}
-Low (Faulty f) = f .number < 18
-
-then-low : (v u : Verdict) → Low v → Low u → Low (then v u)
-then-low Sound u l k = k
-then-low (Faulty f) u l k = l
-
-kind-low : (first last class zone : ℕ) → Low (kindFault first last class zone)
-unfolding kindFault classFault
-kind-low first last class zone =
-    either Low _ _ _ (λ _. omega arith)
-    (λ _. either Low _ _ _ (λ _. omega arith)
-    (λ _. either Low _ _ _ (λ _. omega arith)
-    (λ _. either Low _ _ _ (λ _. omega arith) (λ _. tt))))
-
-site-low : (latitude longitude : ℤ) → Low (siteFault latitude longitude)
-unfolding siteFault
-site-low latitude longitude = either Low _ _ _ (λ _. omega arith) (λ _. tt)
-
-asked-low : (w : Newcomer) → Low (askedOf w)
-unfolding askedFault
-asked-low w = then-low (kindFault (w .channel) (w .channel) (w .class) (w .zone)) _ (kind-low (w .channel) (w .channel) (w .class) (w .zone)) (site-low (w .latitude) (w .longitude))
-
-passed-low : (v : Verdict) (d : Decision) (f : Refusal) → Low v → 18 ≤ f .number → onVerdict v d ≡ refuse f → d ≡ refuse f
-passed-low Sound d f l h e = e
-passed-low (Faulty g) d f l h e = absurd (omega (arith, numbers e))
+-- what is asked for is refused with a lower number
+passed-low : {n : ℕ} {v : Verdict} (d : Decision) (f : Refusal) → Found n v → n ≤ f .number → onVerdict v d ≡ refuse f → d ≡ refuse f
+passed-low d f sound h e = e
+passed-low d f (fault g l) h e = absurd (omega (arith, numbers e))
 
 -- two refusals with other numbers
 unlike : (f g : Fault) → (refusal f .number ≡ refusal g .number → ⊥) → not-for f ≡ not-for g → ⊥
@@ -186,7 +160,7 @@ unlike f g ne e = ne (numbers e)
 pub add-short : (ss : List Station) (w : Newcomer) (i : ℕ) → decide ss (add w) ≡ not-for (Short i) → FirstShort (entered w) ss i
 unfolding decide
 add-short ss w i e =
-    let v = passed-low (askedOf w) _ (refusal (Short i)) (asked-low w) (omega arith) e in
+    let v = passed-low _ (refusal (Short i)) (found-asked 18 (omega arith) _ _ _ _ _ _) (omega arith) e in
     let a = past _ _ _ _ v (unlike IdZero (Short i) (λ z. omega arith)) in
     let b = past _ _ _ _ (a .1) (unlike (IdPresent (first (hasId (w .id)) ss)) (Short i) (λ z. omega arith)) in
     let full : given (leb limit (length ss)) (not-for TableFull) (allow (insert (entered w) ss)) ≡ not-for (Short i) → ⊥ =

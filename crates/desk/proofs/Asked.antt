@@ -1,4 +1,4 @@
--- What a question that passed its own checks tells. Assumes nothing.
+-- What a question that passed its own checks tells, and what these can find. Assumes nothing.
 use mathlib.Core.Path.{_≡_}
 use mathlib.Core.Bool.{true}
 use Prim.Native.Nat.{ℕ, _≤_, _<_}
@@ -7,11 +7,14 @@ use lib.Dec.{leb, ltb}
 use lib.IntN.{ℤ, natAbs}
 use borrow.Author.Tests.{leb-true, ltb-false, not-false}
 use Rattle.ground.proofs.Guards.{past, or-was, and-was}
+use Rattle.ground.proofs.Cases.{either}
 use Rattle.distance.specs.Distance.{latitudeOk, longitudeOk, Placed}
 use Rattle.part73.specs.Classes.{isClass}
 use Rattle.refusals.specs.declared.Refusal.{Refusal}
+use Rattle.refusals.specs.Faults.{AskedChannel, AskedClass, AskedZone, NotPermitted, AskedSite}
 use Rattle.stations.specs.declared.Verdict.the-variants.{Sound, Faulty}
 use Rattle.stations.proofs.Stages.{then-sound}
+use Rattle.stations.proofs.Found.{Found, sound, fault, found-then}
 use Rattle.desk.specs.Asked.{outside, siteOk, classFault, kindFault, siteFault, askedFault}
 
 never : (f : Refusal) → Faulty f ≡ Sound → ⊥
@@ -63,3 +66,22 @@ unfolding askedFault
 fair first last class zone latitude longitude e =
     let v = then-sound (kindFault first last class zone) (siteFault latitude longitude) e in
     record { kind = kind first last class zone (v .0); placed = site-sound latitude longitude (v .1) }
+
+-- ---- what can be found
+
+module _ (n : ℕ) (above : 17 < n) where
+  pub found-kind : (first last class zone : ℕ) → Found n (kindFault first last class zone)
+  unfolding kindFault classFault
+  found-kind first last class zone =
+      either (Found n) _ _ _ (λ _. fault AskedChannel (omega arith))
+      (λ _. either (Found n) _ _ _ (λ _. fault AskedClass (omega arith))
+      (λ _. either (Found n) _ _ _ (λ _. fault AskedZone (omega arith))
+      (λ _. either (Found n) _ _ _ (λ _. fault NotPermitted (omega arith)) (λ _. sound))))
+
+  pub found-site : (latitude longitude : ℤ) → Found n (siteFault latitude longitude)
+  unfolding siteFault
+  found-site latitude longitude = either (Found n) _ _ _ (λ _. fault AskedSite (omega arith)) (λ _. sound)
+
+  pub found-asked : (first last class zone : ℕ) (latitude longitude : ℤ) → Found n (askedFault first last class zone latitude longitude)
+  unfolding askedFault
+  found-asked first last class zone latitude longitude = found-then (found-kind first last class zone) (found-site latitude longitude)

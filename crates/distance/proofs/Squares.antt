@@ -1,9 +1,9 @@
--- The ranges of NS, EW and S, and that S does not go by the order of the sites. Assumes nothing.
+-- The ranges of NS, EW and S, that S does not go by the order of the sites, and that it is 0 at one site. Assumes nothing.
 use mathlib.Core.Path.{_≡_}
 use Prim.Native.Nat.{ℕ, _+_, _*_, _/_, _≤_}
 use native.Mathlib.Nat.{le-trans, mul-le-mul, mul-le-mul-left}
 use native.Mathlib.Omega.{arith}
-use lib.IntN.{ℤ, pos, natAbs, _+ℤ_, _-ℤ_, _*ℤ_, +ℤ-comm}
+use lib.IntN.{ℤ, pos, natAbs, _+ℤ_, _-ℤ_, _*ℤ_, +ℤ-comm, +ℤ-invr}
 use Rattle.distance.specs.Distance.{_÷_, Placed, hOf, latGap, lonGap, P, Q, NS, EW, S}
 use Rattle.ground.proofs.Signed.{abs-add, abs-sub, abs-mul, abs-quot, abs-sub-comm}
 use Rattle.distance.proofs.Cosines.{P-high, Q-high, P-low}
@@ -38,6 +38,14 @@ module _ {lat1 lon1 lat2 lon2 : ℤ} (a : Placed lat1 lon1) (b : Placed lat2 lon
 pub S-sym : (lat1 lon1 lat2 lon2 : ℤ) → S lat1 lon1 lat2 lon2 ≡ S lat2 lon2 lat1 lon1
 unfolding S NS EW
 S-sym lat1 lon1 lat2 lon2 = simp (+ℤ-comm lat1 lat2, abs-sub-comm lat1 lat2, lonGap-sym lon1 lon2)
+
+-- at one site it is 0
+along-none : (p : ℤ) → natAbs (pos 0 *ℤ p ÷ 3600000) ≡ 0
+along-none p = omega (arith, along-size 0 p 0 (natAbs p) (omega arith) (omega arith))
+
+pub S-here : (lat lon : ℤ) → S lat lon lat lon ≡ 0
+unfolding S NS EW lonGap
+S-here lat lon = rw (+ℤ-invr lat, +ℤ-invr lon, along-none (P (hOf lat lat)), along-none (Q (hOf lat lat)))
 
 -- where the latitudes alone are L decimetres apart at the shortest degree that there is, S is no less than L²
 pub far : (lat1 lon1 lat2 lon2 : ℤ) (L : ℕ) → natAbs lat1 ≤ 270000 → natAbs lat2 ≤ 270000 → L * 3600000 ≤ latGap lat1 lat2 * 1105648400 → L * L ≤ S lat1 lon1 lat2 lon2

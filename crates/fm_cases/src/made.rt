@@ -7,9 +7,11 @@ use cases::first_id;
 use cases::kind_of;
 use cases::made_question;
 use cases::records_of;
+use scenes::REPEATING;
 use scenes::TABLE_BYTES;
 use tally::Notes;
 use tally::least;
+use tally::repeats_noted;
 
 // Room for the longest table that is made.
 pub(crate) type Table = [u8; TABLE_BYTES];
@@ -35,7 +37,24 @@ fn one_case(
     compare(state, q, &table[..end], mine, other, notes)
 }
 
-// The cases of a run, up to the first difference; whether there is none.
+// Whether no more tables were refused for a repeat than before; else says so.
+fn none_repeated(before: u64, notes: &Notes) -> bool {
+    let now = repeats_noted(notes);
+    if now == before {
+        return true;
+    }
+    io::write_all(
+        1,
+        b"a record repeats another in a table that is made without repeats; refused so before and by now: ",
+    );
+    io::print_decimal(1, before);
+    io::write_all(1, b" ");
+    io::print_decimal(1, now);
+    io::write_all(1, b"\n");
+    false
+}
+
+// The cases of a run, up to the first difference; whether there is none, and no repeat that is not meant.
 pub(crate) fn run_cases(
     run: Run,
     state: &mut u64,
@@ -44,6 +63,7 @@ pub(crate) fn run_cases(
     other: &mut Image,
     notes: &mut Notes,
 ) -> bool {
+    let before = repeats_noted(notes);
     let mut left = run.cases;
     while 0 < left {
         if !one_case(run, state, table, mine, other, notes) {
@@ -51,5 +71,8 @@ pub(crate) fn run_cases(
         }
         left -= 1;
     }
-    true
+    if run.style == REPEATING {
+        return true;
+    }
+    none_repeated(before, notes)
 }

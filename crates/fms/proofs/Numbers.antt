@@ -2,26 +2,25 @@
 use mathlib.Core.Path.{_≡_, refl}
 use mathlib.Core.Logic.{_↔_}
 use mathlib.Core.List.{List, [], _∷_}
-use Prim.Native.Nat.{ℕ, _+_, _/_, _<_}
+use Prim.Native.Nat.{ℕ, _/_, _<_}
 use native.Mathlib.Omega.{arith}
 use lib.IntN.{ℤ}
 use lib.ListN.{length}
 use Rattle.ground.proofs.Cases.{either}
-use Rattle.refusals.specs.Faults.{Fault, refusal, UnderEightBytes, MarkDiffers, VersionUnknown, SixthByteSet, CountOutside, LengthWrong, IdNotAscending, ChannelOutside, ClassOver, FlagsOver, LatitudeOutside, LongitudeOutside, AskedChannel, AskedClass, AskedZone, NotPermitted, AskedSite, IdZero, IdPresent, Short, TableFull, DoesNotFit, IdAbsent, TooFar, NotMovable, StandardUnknown}
-use Rattle.versions.specs.Version.{top}
-use Rattle.stations.specs.Image.{stations, numbers, headed, verdict, scan, scanned, stages, then, tableOf, judged, version, count}
+use Rattle.refusals.specs.Faults.{Fault, refusal, UnderEightBytes, MarkDiffers, VersionUnknown, SixthByteSet, CountOutside, LengthWrong, IdNotAscending, ChannelOutside, ClassOver, FlagsOver, LatitudeOutside, LongitudeOutside, AskedChannel, AskedClass, AskedZone, NotPermitted, AskedSite, IdZero, IdPresent, Short, TableFull, DoesNotFit, IdAbsent, TooFar, NotMovable, StandardUnknown, Repeated}
+use Rattle.stations.specs.Image.{stations, stages, tableOf, judged, count}
 use Rattle.stations.specs.Lists.{withId}
 use Rattle.stations.specs.Encode.{encode}
 use Rattle.stations.specs.declared.Station.{Station}
 use Rattle.stations.specs.declared.Judged.{Judged}
 use Rattle.stations.specs.declared.Judged.the-variants.{Table, Refused as Refused′}
 use Rattle.stations.specs.declared.Verdict.{Verdict}
-use Rattle.stations.specs.declared.Verdict.the-variants.{Sound, Faulty}
+use Rattle.stations.proofs.Found.{Found, sound, fault, found-then, found-headed, found-scanned, found-repeated}
 use Rattle.desk.specs.Answers.{Outcome, grant, deny, onTable, onAsked, answer}
-use Rattle.desk.specs.Asked.{classFault, kindFault, siteFault, askedFault}
 use Rattle.desk.specs.Questions.{countOf, readOf, distanceOf}
 use Rattle.desk.specs.declared.Answer.{Answer}
 use Rattle.desk.specs.declared.Answer.the-variants.{Granted, Refused}
+use Rattle.desk.proofs.Asked.{found-kind, found-site, found-asked}
 use Rattle.studies.specs.Studies.{standardFault, wantedFault, asideFault, studyFault, study}
 use Rattle.studies.specs.declared.Wanted.{Wanted}
 use Rattle.changes.specs.Changes.{Change, add, withdraw, move, Decision, allow, refuse, onVerdict, decide, written, changedFor}
@@ -34,74 +33,28 @@ use Rattle.fms.specs.Reason.{located}
 
 -- ---- a verdict
 
-data Found : Verdict → Type 0 where
-  sound : Found Sound
-  fault : (f : Fault) → Found (Faulty (refusal f))
+-- any number that there is
+abbrev most : ℕ
+most = 28
 
-found-then : {v w : Verdict} → Found v → Found w → Found (then v w)
-found-then sound k = k
-found-then (fault f) k = fault f
+abbrev Any : Verdict → Type 0
+Any v = Found most v
 
-found-numbers : (s : List ℕ) → Found (numbers s)
-unfolding numbers
-found-numbers s =
-    either Found _ _ _ (λ _. fault VersionUnknown)
-    (λ _. either Found _ _ _ (λ _. fault SixthByteSet)
-    (λ _. either Found _ _ _ (λ _. fault CountOutside)
-    (λ _. either Found _ _ _ (λ _. fault LengthWrong) (λ _. sound))))
-
-found-headed : (s : List ℕ) → Found (headed s)
-unfolding headed
-found-headed s = either Found _ _ _ (λ _. fault UnderEightBytes) (λ _. either Found _ _ _ (λ _. fault MarkDiffers) (λ _. found-numbers s))
-
-found-verdict : (t last i : ℕ) (r : Station) → Found (verdict t last i r)
-unfolding verdict
-found-verdict t last i r =
-    either Found _ _ _ (λ _. fault (IdNotAscending i))
-    (λ _. either Found _ _ _ (λ _. fault (ChannelOutside i))
-    (λ _. either Found _ _ _ (λ _. fault (ClassOver i))
-    (λ _. either Found _ _ _ (λ _. fault (FlagsOver i))
-    (λ _. either Found _ _ _ (λ _. fault (LatitudeOutside i))
-    (λ _. either Found _ _ _ (λ _. fault (LongitudeOutside i)) (λ _. sound))))))
-
-found-scan : (t i last : ℕ) (rs : List Station) → Found (scan t i last rs)
-unfolding scan
-found-scan t i last [] = sound
-found-scan t i last (r ∷ rs) = found-then (found-verdict t last i r) (found-scan t (i + 1) (r .id) rs)
-
-found-scanned : (s : List ℕ) → Found (scanned s)
-unfolding scanned
-found-scanned s = found-scan (top (version s)) 0 0 (stations s)
-
-found-kind : (first last class zone : ℕ) → Found (kindFault first last class zone)
-unfolding kindFault classFault
-found-kind first last class zone =
-    either Found _ _ _ (λ _. fault AskedChannel)
-    (λ _. either Found _ _ _ (λ _. fault AskedClass)
-    (λ _. either Found _ _ _ (λ _. fault AskedZone)
-    (λ _. either Found _ _ _ (λ _. fault NotPermitted) (λ _. sound))))
-
-found-site : (latitude longitude : ℤ) → Found (siteFault latitude longitude)
-unfolding siteFault
-found-site latitude longitude = either Found _ _ _ (λ _. fault AskedSite) (λ _. sound)
-
-found-asked : (first last class zone : ℕ) (latitude longitude : ℤ) → Found (askedFault first last class zone latitude longitude)
-unfolding askedFault
-found-asked first last class zone latitude longitude = found-then (found-kind first last class zone) (found-site latitude longitude)
-
-found-standard : (standard : ℕ) → Found (standardFault standard)
+found-standard : (standard : ℕ) → Any (standardFault standard)
 unfolding standardFault
-found-standard standard = either Found _ _ _ (λ _. fault StandardUnknown) (λ _. sound)
+found-standard standard = either Any _ _ _ (λ _. fault StandardUnknown (omega arith)) (λ _. sound)
 
-found-wanted : (w : Wanted) → Found (wantedFault w)
+found-wanted : (w : Wanted) → Any (wantedFault w)
 unfolding wantedFault
-found-wanted w = found-then (found-kind (w .first) (w .last) (w .class) (w .zone)) (found-then (found-standard (w .standard)) (found-site (w .latitude) (w .longitude)))
+found-wanted w =
+    found-then (found-kind most (omega arith) (w .first) (w .last) (w .class) (w .zone))
+    (found-then (found-standard (w .standard)) (found-site most (omega arith) (w .latitude) (w .longitude)))
 
-found-aside : (id : ℕ) (ss : List Station) → Found (asideFault id ss)
+found-aside : (id : ℕ) (ss : List Station) → Any (asideFault id ss)
 unfolding asideFault
-found-aside id ss = either Found _ _ _ (λ _. fault IdAbsent) (λ _. sound)
+found-aside id ss = either Any _ _ _ (λ _. fault IdAbsent (omega arith)) (λ _. sound)
 
-found-study : (ss : List Station) (w : Wanted) → Found (studyFault ss w)
+found-study : (ss : List Station) (w : Wanted) → Any (studyFault ss w)
 unfolding studyFault
 found-study ss w = found-then (found-wanted w) (found-aside (w .aside) ss)
 
@@ -111,13 +64,17 @@ data Told : Judged → Type 0 where
   table : (n : ℕ) → Told (Table n)
   turned : (f : Fault) → Told (Refused′ (refusal f))
 
-told-of : {v : Verdict} (n : ℕ) → Found v → Told (tableOf v n)
+told-of : {v : Verdict} (n : ℕ) → Any v → Told (tableOf v n)
 told-of n sound = table n
-told-of n (fault f) = turned f
+told-of n (fault f l) = turned f
 
 told-judged : (s : List ℕ) → Told (judged s)
 unfolding judged stages
-told-judged s = told-of (count s) (found-then (found-headed s) (found-then (found-scanned s) sound))
+told-judged s =
+    told-of (count s)
+    (found-then (found-headed most (omega arith) s)
+    (found-then (found-scanned most (omega arith) s)
+    (found-then (found-repeated most (omega arith) s) sound)))
 
 -- ---- a decision
 
@@ -125,9 +82,9 @@ data Decided : Decision → Type 0 where
   allowed : (rs : List Station) → Decided (allow rs)
   forbidden : (f : Fault) → Decided (refuse (refusal f))
 
-decided-on : {v : Verdict} {d : Decision} → Found v → Decided d → Decided (onVerdict v d)
+decided-on : {v : Verdict} {d : Decision} → Any v → Decided d → Decided (onVerdict v d)
 decided-on sound k = k
-decided-on (fault f) k = forbidden f
+decided-on (fault f l) k = forbidden f
 
 decided-with : (id : ℕ) (ss : List Station) (none : Decision) (one : Station → Decision) → Decided none → ((r : Station) → Decided (one r)) → Decided (withId id ss none one)
 unfolding withId
@@ -137,7 +94,7 @@ decided-with id (x ∷ xs) none one h k = either Decided _ _ _ (λ _. k x) (λ _
 decided : (ss : List Station) (c : Change) → Decided (decide ss c)
 unfolding decide
 decided ss (add w) =
-    decided-on (found-asked (w .channel) (w .channel) (w .class) (w .zone) (w .latitude) (w .longitude))
+    decided-on (found-asked most (omega arith) (w .channel) (w .channel) (w .class) (w .zone) (w .latitude) (w .longitude))
     (either Decided _ _ _ (λ _. forbidden IdZero)
     (λ _. either Decided _ _ _ (λ _. forbidden (IdPresent _))
     (λ _. either Decided _ _ _ (λ _. forbidden (Short _))
@@ -159,9 +116,9 @@ on-table : {j : Judged} {o : Outcome} → Told j → Comes o → Comes (onTable 
 on-table (table n) k = k
 on-table (turned f) k = denied f
 
-on-asked : {v : Verdict} {o : Outcome} → Found v → Comes o → Comes (onAsked v o)
+on-asked : {v : Verdict} {o : Outcome} → Any v → Comes o → Comes (onAsked v o)
 on-asked sound k = k
-on-asked (fault f) k = denied f
+on-asked (fault f l) k = denied f
 
 on-decision : {d : Decision} → Decided d → Comes (written d)
 on-decision (allowed rs) = given-out (encode rs)
@@ -240,6 +197,7 @@ above-0 IdAbsent = omega arith
 above-0 TooFar = omega arith
 above-0 (NotMovable i) = omega arith
 above-0 StandardUnknown = omega arith
+above-0 (Repeated i) = omega arith
 
 pub granted-exactly : {a : Answer} {r : ℕ} → Numbered a → Says a r → (r / 4294967296 ≡ 0) ↔ ((n : ℕ) × (a ≡ Granted n))
 granted-exactly (granted n) h = (λ _. (n, refl), λ _. h .number)

@@ -3,3 +3,4 @@ pub mod Lists
 pub mod Rows
 pub mod Writing
 pub mod Passing
+pub mod Signed

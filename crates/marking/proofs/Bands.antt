@@ -8,6 +8,7 @@ use native.Mathlib.Decide.{ℕ-discrete, decLt}
 use lib.Dec.{leb, ltb, eqb}
 use borrow.Author.Tests.{lt-ltb, le-ltb, le-leb, eq-eqb, leb-true, ltb-true, eqb-true}
 use Rattle.ground.proofs.Guards.{and-was, or-first}
+use Rattle.ground.proofs.Tests.{iff}
 use Rattle.part73.specs.Columns.{gap}
 use Rattle.part73.proofs.Facts.{column-none}
 use Rattle.spacing.specs.Reaching.{hits}
@@ -15,12 +16,7 @@ use Rattle.spacing.specs.declared.Reach.{Reach}
 use Rattle.marking.specs.Marks.{Touches}
 use Rattle.marking.specs.declared.Channels.{Channels}
 
--- ---- two tests are one where each gives the other
-
-iff : (a b : Bool) → (a ≡ true → b ≡ true) → (b ≡ true → a ≡ true) → a ≡ b
-iff true b f g = sym (f refl)
-iff false true f g = g refl
-iff false false f g = refl
+-- ---- tests
 
 never : (a : Bool) → (a ≡ true → ⊥) → a ≡ false
 never true f = absurd (f refl)

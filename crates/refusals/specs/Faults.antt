@@ -1,4 +1,4 @@
--- 01, Refusal numbers and their order, with 23 as 02, R-1, and with 3, 5 and 21 as R-3 has them, and 26 of R-6: each fault by its
+-- 01, Refusal numbers and their order, with 23 as 02, R-1, and with 3, 5 and 21 as R-3 has them, 26 of R-6 and 27 of R-7: each fault by its
 -- name, with the number that it is given and what it returns also. Assumes nothing.
 use Prim.Native.Nat.{ℕ}
 use Rattle.refusals.specs.declared.Refusal.{Refusal}
@@ -56,6 +56,8 @@ pub data Fault : Type 0 where
   NotMovable : (position : ℕ) → Fault
   -- Check, Arrange, the reason: a standard not 1 or 2
   StandardUnknown : Fault
+  -- a record repeats an earlier one
+  Repeated : (position : ℕ) → Fault
 
 abbrev pub numbered : ℕ → ℕ → Refusal
 numbered number extra = record { number = number; extra = extra }
@@ -88,3 +90,4 @@ refusal IdAbsent = numbered 23 0
 refusal TooFar = numbered 24 0
 refusal (NotMovable position) = numbered 25 position
 refusal StandardUnknown = numbered 26 0
+refusal (Repeated position) = numbered 27 position

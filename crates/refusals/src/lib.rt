@@ -58,3 +58,5 @@ pub const TOO_FAR: u32 = 24;
 pub const NOT_MOVABLE: u32 = 25;
 // Check, Arrange, the reason: a standard not 1 or 2
 pub const STANDARD_UNKNOWN: u32 = 26;
+// a record repeats an earlier one
+pub const REPEATED: u32 = 27;

@@ -22,7 +22,7 @@ pub(crate) fn start_of(position: usize) -> usize
 }
 
 // Writes the lowest 8 bits where there is room.
-pub(crate) fn put_one(table: &mut [u8], at: usize, value: u32) {
+pub fn put_one(table: &mut [u8], at: usize, value: u32) {
     if at < table.len() {
         table[at] = (value % 256) as u8;
     }

@@ -1,8 +1,9 @@
-// Made tables: numbers from a fixed seed, sites at the limits, records around what is asked, and damage.
+// Made tables: numbers from a fixed seed, sites at the limits, records around what is asked, some that repeat others, and damage.
 mod chance;
 mod damage;
 mod image;
 mod limits;
+mod repeats;
 mod sizes;
 mod tables;
 mod words;
@@ -15,10 +16,12 @@ pub use damage::damaged;
 pub use image::Record;
 pub use image::put_any_header;
 pub use image::put_header;
+pub use image::put_one;
 pub use image::put_record;
 pub use limits::at_limit;
 pub use limits::edge;
 pub use limits::separation;
+pub use repeats::repeat_some;
 pub use sizes::IMAGE_BYTES;
 pub use sizes::LIMIT;
 pub use sizes::LINE;
@@ -29,6 +32,7 @@ pub use tables::AT_LIMITS;
 pub use tables::CROWDED;
 pub use tables::EQUALS;
 pub use tables::LOW;
+pub use tables::REPEATING;
 pub use tables::SCATTERED;
 pub use tables::any_site;
 pub use tables::made_table;

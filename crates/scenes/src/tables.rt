@@ -8,6 +8,7 @@ use super::image::start_of;
 use super::limits::at_limit;
 use super::limits::either_way;
 use super::limits::separation;
+use super::repeats::fresh;
 use super::words::LATITUDES;
 use super::words::LONGITUDES;
 use super::words::Site;
@@ -35,6 +36,9 @@ pub const CROWDED: u32 = 4;
 
 // Records of any of these styles, around a site astride the 180th meridian.
 pub const ASTRIDE: u32 = 5;
+
+// Records of any of these styles but the last, of which some repeat an earlier one. In no other style does one.
+pub const REPEATING: u32 = 6;
 
 // A reach of some hundred km, in seconds.
 const WIDE: u32 = 20_000;
@@ -266,6 +270,30 @@ fn either(state: &mut u64, a: Record, b: Record) -> Record {
     a
 }
 
+// Whether records of a style may repeat one another by chance.
+fn may_repeat(style: u32) -> bool {
+    style != SCATTERED && style != LOW
+}
+
+// A record of a style that repeats none of the first n.
+fn fresh_record(
+    state: &mut u64,
+    id: u32,
+    asked: Record,
+    from: Record,
+    style: u32,
+    table: &[u8],
+    n: usize,
+) -> Record
+    requires { ⌜ n ≤ mostRecords ⌝ }
+{
+    let record = made_record(state, id, asked, from, style);
+    if may_repeat(style) {
+        return fresh(table, n, record);
+    }
+    record
+}
+
 // Writes a table of n records whose ids rise by 3 from a number, made from what is asked, and gives its length.
 pub fn made_table(
     state: &mut u64,
@@ -283,7 +311,7 @@ pub fn made_table(
     let mut id = start;
     let mut i: usize = 0;
     while i < n {
-        let record = made_record(state, id, asked, from, style);
+        let record = fresh_record(state, id, asked, from, style, table, i);
         put_record(table, i, record);
         from = either(state, from, record);
         id = std::num::wrapping_add_u32(id, 3);

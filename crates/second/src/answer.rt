@@ -1,5 +1,6 @@
 // How an answer is packed into 64 bits.
-ghost use Prim.Native.Nat.{_*_, _^_, _≤_, _<_};
+ghost use Prim.Native.Nat.{_+_, _*_, _^_, _≤_, _<_};
+ghost use Rattle.second.specs.Answer.{highest};
 
 // The refusals' numbers.
 pub(crate) const UNDER_EIGHT_BYTES: u64 = 1;
@@ -54,13 +55,15 @@ pub(crate) const NOT_MOVABLE: u64 = 25;
 
 pub(crate) const ASKED_STANDARD: u64 = 26;
 
+pub(crate) const RECORD_AGAIN: u64 = 27;
+
 // The least packed refusal, 2^32.
 const REFUSED: u64 = 4_294_967_296;
 
 // A refusal's number in the high half and its extra number in the low half.
 pub(crate) fn refused(number: u64, extra: u64) -> u64
-    requires { ⌜ (1 ≤ number) × (number ≤ 26) ⌝ }
-    ensures { λ r. ⌜ (2 ^ 32 ≤ r) × (r < 27 * 2 ^ 32) ⌝ }
+    requires { ⌜ (1 ≤ number) × (number ≤ highest) ⌝ }
+    ensures { λ r. ⌜ (2 ^ 32 ≤ r) × (r < (highest + 1) * 2 ^ 32) ⌝ }
 {
     number * REFUSED + extra % REFUSED
 }

@@ -3,6 +3,7 @@ use super::answer::OTHER_COUNT;
 use super::answer::OTHER_LENGTH;
 use super::answer::OTHER_MARK;
 use super::answer::OTHER_VERSION;
+use super::answer::RECORD_AGAIN;
 use super::answer::RECORD_CHANNEL;
 use super::answer::RECORD_CLASS;
 use super::answer::RECORD_FLAGS;
@@ -18,9 +19,11 @@ use super::ranges::unknown;
 use super::records::Station;
 use super::records::id_at;
 use super::records::station_at;
+use super::repeats::first_again;
 use second_rule::LATITUDES;
 use second_rule::LONGITUDES;
 ghost use Prim.Native.Nat.{_≤_};
+ghost use Rattle.second.specs.Answer.{highest};
 ghost use Rattle.second.specs.Sizes.{capacity};
 
 // 1 to 4, or 0: what is wrong with the first six bytes.
@@ -134,9 +137,29 @@ fn judge_records(table: &[u8], n: usize) -> Judged
     }
 }
 
+// The judgement of a table whose records are in order one by one: none may be entered twice.
+fn judge_repeats(table: &[u8], n: usize) -> Judged
+    requires { ⌜ n ≤ capacity ⌝ }
+    ensures { λ r. ⌜ (r .number ≤ highest) × (r .stations ≤ capacity) ⌝ }
+{
+    let again = first_again(table, n);
+    if again < n {
+        return Judged {
+            number: RECORD_AGAIN,
+            extra: again as u64,
+            stations: 0,
+        };
+    }
+    Judged {
+        number: 0,
+        extra: 0,
+        stations: n,
+    }
+}
+
 // The judgement of a table.
 pub(crate) fn judge(table: &[u8]) -> Judged
-    ensures { λ r. ⌜ (r .number ≤ 12) × (r .stations ≤ capacity) ⌝ }
+    ensures { λ r. ⌜ (r .number ≤ highest) × (r .stations ≤ capacity) ⌝ }
 {
     let fault = header_fault(table);
     if fault != 0 {
@@ -153,5 +176,9 @@ pub(crate) fn judge(table: &[u8]) -> Judged
     if table.len() as u64 != 8 + 16 * n {
         return unfit(OTHER_LENGTH);
     }
-    judge_records(table, n as usize)
+    let judged = judge_records(table, n as usize);
+    if judged.number != 0 {
+        return judged;
+    }
+    judge_repeats(table, judged.stations)
 }

@@ -13,6 +13,7 @@ mod ranges;
 mod reading;
 mod reasoning;
 mod records;
+mod repeats;
 mod rows;
 mod shortness;
 mod study;

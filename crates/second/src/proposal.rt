@@ -14,6 +14,7 @@ use second_rule::LESSER;
 use second_rule::LONGITUDES;
 use second_rule::TABLE_A;
 ghost use Prim.Native.Nat.{_≤_};
+ghost use Rattle.second.specs.Answer.{highest};
 
 // Whether a site is out of range.
 pub(crate) fn out_of_range(lat: i32, lon: i32) -> bool {
@@ -52,7 +53,7 @@ fn other_standard(standard: u64) -> bool {
 
 // 14 to 17 or 26, or 0: what is wrong with a class, a zone, a standard and a site.
 fn station_fault(class: u32, zone: u32, standard: u64, lat: i32, lon: i32) -> u64
-    ensures { λ r. ⌜ r ≤ 26 ⌝ }
+    ensures { λ r. ⌜ r ≤ highest ⌝ }
 {
     if 7 < class {
         return ASKED_CLASS;
@@ -85,7 +86,7 @@ pub(crate) fn fault(
     lat: i32,
     lon: i32,
 ) -> u64
-    ensures { λ r. ⌜ r ≤ 26 ⌝ }
+    ensures { λ r. ⌜ r ≤ highest ⌝ }
 {
     if outside(first) {
         return ASKED_CHANNEL;

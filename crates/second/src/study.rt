@@ -5,12 +5,13 @@ use super::judgement::judge;
 use super::judgement::unfit;
 use super::records::absent;
 ghost use Prim.Native.Nat.{_≤_};
+ghost use Rattle.second.specs.Answer.{highest};
 ghost use Rattle.second.specs.Sizes.{capacity};
 
 // The judgement of a table, then of a proposal by the number of its fault or 0, then of the id left aside.
 pub(crate) fn judge_study(table: &[u8], fault: u64, aside: u32) -> Judged
-    requires { ⌜ fault ≤ 26 ⌝ }
-    ensures { λ r. ⌜ (r .number ≤ 26) × (r .stations ≤ capacity) ⌝ }
+    requires { ⌜ fault ≤ highest ⌝ }
+    ensures { λ r. ⌜ (r .number ≤ highest) × (r .stations ≤ capacity) ⌝ }
 {
     let judged = judge(table);
     if judged.number != 0 {

@@ -4,18 +4,19 @@
 use mathlib.Core.Path.{_≡_, refl, sym, ap, _∙_}
 use mathlib.Core.Logic.{_↔_, _⊎_, inl, inr}
 use mathlib.Core.Bool.{Bool, true, false, and-comm, true≢false}
-use Prim.Native.Nat.{ℕ, _-_, _≤_, _<_}
+use Prim.Native.Nat.{ℕ, _+_, _-_, _≤_, _<_}
 use native.Mathlib.Nat.{add-comm, lt-of-le-of-lt}
 use native.Mathlib.Decide.{decLt}
 use native.Mathlib.Omega.{arith}
 use lib.Dec.{leb, lit<}
 use lib.IntN.{ℤ, pos, negsuc}
 use borrow.Author.Tests.{ltb-true, lt-ltb}
-use Rattle.distance.specs.Distance.{Placed, Rounded, D}
+use Rattle.ground.specs.Guard.{given}
+use Rattle.distance.specs.Distance.{Placed, Rounded, D, root}
 use Rattle.distance.proofs.Meridian.{S-meridian}
 use Rattle.distance.proofs.Rounding.{D-is, unique}
-use Rattle.distance.proofs.Squares.{S-sym, S-size}
-use Rattle.part73.specs.Columns.{gap, none}
+use Rattle.distance.proofs.Squares.{S-sym, S-here, S-size}
+use Rattle.part73.specs.Columns.{gap, none, column}
 use Rattle.part73.specs.Separations.{Separations}
 use Rattle.part73.specs.TableA.{tableA}
 use Rattle.part73.proofs.Facts.{column-none, table-a}
@@ -69,6 +70,14 @@ module _ {km : ℕ → ℕ → ℕ → ℕ} (table : Separations km) where
   pub reaches-either : {p q : Place} {r : Reach} → Reaches km p q r → Reaches km q p r
   reaches-either {p} {q} {r} w =
       record { most = w .most; tells = λ x y e. short-either (sited q x) (sited p y) ∙ (w .tells y x (exempt-swap y x ∙ e) ∙ ap (hits r) (gap-swap y x)) }
+
+  -- two stations of one class, at one site on one channel above 220
+  pub always-same : (p : Assignment) → p .class < 8 → 220 < p .channel → shortBy km p p ≡ true
+  unfolding shortBy separation distanceOf squareOf gap column given D root
+  always-same p known high =
+      let x = p .channel in
+      let none : (x - x) + (x - x) ≡ 0 = omega arith in
+      rw (S-here (p .latitude) (p .longitude), for-open x x (open-high x x (inl high)), none) (lt-ltb _ _ (table .above (p .class) (p .class) 0 known known (omega arith)))
 
   module _ (p q : Assignment) (known : p .class < 8) (known′ : q .class < 8) where
     without : columnFor (p .channel) (q .channel) ≡ none → shortBy km p q ≡ false

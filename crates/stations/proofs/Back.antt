@@ -19,14 +19,16 @@ use Rattle.wire.proofs.Sign.{signed-bytes}
 use Rattle.distance.specs.Distance.{latitudeOk, longitudeOk}
 use Rattle.versions.specs.Version.{top, limit}
 use Rattle.versions.proofs.Versions.{carried, limit-small, version-small}
-use Rattle.stations.specs.Image.{stationAt, stations, count, headed, numbers, judged, scan, scanned, verdict, Headed}
+use Rattle.stations.specs.Image.{stationAt, stations, count, headed, numbers, judged, scan, scanned, repeated, verdict, Headed}
 use Rattle.stations.specs.Encode.{recordOf, headerOf, versionOf, encode}
+use Rattle.stations.specs.Lists.{twins, NoPair}
 use Rattle.stations.specs.declared.Station.{Station}
 use Rattle.stations.specs.declared.Verdict.the-variants.{Sound}
 use Rattle.stations.specs.declared.Judged.the-variants.{Table}
 use Rattle.stations.proofs.Stages.{all-passed}
 use Rattle.stations.proofs.Table.{Marked}
 use Rattle.stations.proofs.Fine.{Fine, Good, Over}
+use Rattle.stations.proofs.Repeats.{unrepeated}
 
 -- a station whose fields fit their places in a record
 pub record Sized (r : Station) : Type 0 where
@@ -172,8 +174,11 @@ module _ (rs : List Station) (few : length rs ≤ limit) where
     unfolding scanned
     scanned-image g = rw (stations-image, version) (scan-all rs (top (versionOf rs)) 0 0 (λ x m. g .each x m .counts) g)
 
+    pub repeated-image : NoPair twins rs → repeated (encode rs) ≡ Sound
+    repeated-image c = unrepeated (encode rs) .1 (rw stations-image c)
+
   -- the encoding of a valid list is accepted, and has its stations
-  pub image-sound : Good (top (versionOf rs)) rs → SmallIds rs → (judged (encode rs) ≡ Table (length rs)) × (stations (encode rs) ≡ rs)
-  image-sound g h =
+  pub image-sound : Good (top (versionOf rs)) rs → SmallIds rs → NoPair twins rs → (judged (encode rs) ≡ Table (length rs)) × (stations (encode rs) ≡ rs)
+  image-sound g h c =
       let m : AllSized rs = λ x o. fine-sized x (g .each x o) (h x o) in
-      (all-passed (encode rs) headed-image (scanned-image m g) ∙ ap Table counted, stations-image m)
+      (all-passed (encode rs) headed-image (scanned-image m g) (repeated-image m c) ∙ ap Table counted, stations-image m)

@@ -2,10 +2,12 @@ pub mod Ids
 pub mod Changed
 pub mod Pairs
 pub mod Stages
+pub mod Found
 pub mod Table
 pub mod Longer
 pub mod Fine
 pub mod Image
+pub mod Repeats
 pub mod Back
 pub mod Scanning
 pub mod Places

@@ -1,18 +1,20 @@
--- A list in which no pair is near stays such in every part of it, with a record set in that is apart from all, and with a
--- record on another channel where it is apart from all others: whatever it is to be near, as long as it is so in either order.
--- Assumes nothing.
+-- A list in which no pair is near, by the positions of its records. It stays such in every part of it, with a record set in that is
+-- apart from all, and with a record on another channel where it is apart from all others: whatever it is to be near, as long as it is
+-- so in either order. Assumes nothing.
 use mathlib.Core.Path.{_≡_, refl, sym, _∙_}
-use mathlib.Core.Logic.{⊎-elim}
+use mathlib.Core.Logic.{_↔_, ⊎-elim}
 use mathlib.Core.Bool.{Bool, true, false, cond, not}
 use mathlib.Core.List.{List, [], _∷_, List·Memᴰ·head, List·Memᴰ·tail}
-use Prim.Native.Nat.{ℕ, _<_}
+use Prim.Native.Nat.{ℕ, zero, suc, _<_}
 use native.Mathlib.Omega.{arith}
 use lib.Dec.{ltb, eqb}
 use borrow.Author.Tests.{eqb-true, eqb-false}
 use Rattle.ground.specs.Guard.{given}
-use Rattle.ground.specs.Lists.{_∈_, keep}
+use Rattle.ground.specs.Lists.{_∈_, build, keep}
+use Rattle.ground.proofs.Built.{drop-build}
 use Rattle.ground.proofs.Cases.{either}
 use Rattle.ground.proofs.Order.{Ascending, none, ahead, ahead-of, rest-of, ascending-keep, ascending-map}
+use Rattle.ground.proofs.Positions.{in-build, ascending-at}
 use Rattle.stations.specs.Lists.{hasId, insert, without, onto, ontoIf, rechannel, Apart, NoPair}
 use Rattle.stations.specs.declared.Station.{Station}
 use Rattle.stations.proofs.Ids.{Ascends}
@@ -39,6 +41,20 @@ module _ (near : Station → Station → Bool) where
   unfolding NoPair Apart
   no-pair [] c = tt
   no-pair (x ∷ xs) c = (ahead-of c, no-pair xs (rest-of c))
+
+  turns : (n : ℕ) (f : ℕ → Station) → ((i j : ℕ) → i < j → j < n → near (f i) (f j) ≡ false) → InTurn (build n f)
+  unfolding build
+  turns zero f h = none
+  turns (suc n) f h =
+      ahead {x = f 0} (λ y m. let p = in-build n (λ i. f (suc i)) m in let l = p .1 in rw (p .2) (h 0 (suc (p .0)) (omega arith) (omega arith)))
+      (turns n (λ i. f (suc i)) (λ i j l k. h (suc i) (suc j) (omega arith) (omega arith)))
+
+  -- in a list of a function's first n values
+  pub no-pair-build : (n : ℕ) (f : ℕ → Station) → NoPair near (build n f) ↔ ((i j : ℕ) → i < j → j < n → near (f i) (f j) ≡ false)
+  no-pair-build n f = (
+    λ c i j h k. ascending-at (build n f) i j _ _ (in-turn (build n f) c) h (drop-build n f i (omega arith)) (drop-build n f j k),
+    λ h. no-pair (build n f) (turns n f h),
+  )
 
   pub no-pair-keep : (p : Station → Bool) (ss : List Station) → NoPair near ss → NoPair near (keep p ss)
   no-pair-keep p ss c = no-pair (keep p ss) (ascending-keep p ss (in-turn ss c))

@@ -5,7 +5,7 @@ use mathlib.Core.List.{List, [], _∷_}
 use Prim.Native.Nat.{ℕ}
 use native.Mathlib.Omega.{arith}
 use Rattle.refusals.specs.declared.Refusal.{Refusal}
-use Rattle.stations.specs.Image.{count, then, scanned, stages, firstFault, tableOf, judged, Headed, Accepted}
+use Rattle.stations.specs.Image.{count, then, scanned, repeated, stages, firstFault, tableOf, judged, Headed, Accepted}
 use Rattle.stations.specs.declared.Verdict.{Verdict}
 use Rattle.stations.specs.declared.Verdict.the-variants.{Sound, Faulty}
 use Rattle.stations.specs.declared.Judged.the-variants.{Table}
@@ -58,9 +58,9 @@ module _ (s : List ℕ) where
 
   -- ---- each stage by name
 
-  pub all-passed : Headed s → scanned s ≡ Sound → Accepted s
+  pub all-passed : Headed s → scanned s ≡ Sound → repeated s ≡ Sound → Accepted s
   unfolding stages
-  all-passed h k = accepted (h, (k, tt))
+  all-passed h k l = accepted (h, (k, (l, tt)))
 
   module _ (n : ℕ) (e : judged s ≡ Table n) where
     pub headed-passed : Headed s
@@ -70,3 +70,7 @@ module _ (s : List ℕ) where
     pub scanned-passed : scanned s ≡ Sound
     unfolding stages
     scanned-passed = passed n e .1 .0
+
+    pub repeated-passed : repeated s ≡ Sound
+    unfolding stages
+    repeated-passed = passed n e .1 .1 .0

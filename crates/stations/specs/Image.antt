@@ -1,6 +1,6 @@
--- 01, The table image and its refusals 1 to 12, in the paper's order. Assumes nothing.
+-- 01, The table image and its refusals 1 to 12, and 27 of 02, R-7, in the papers' order. Assumes nothing.
 use mathlib.Core.Path.{_≡_}
-use mathlib.Core.Bool.{not, _&&_, _||_}
+use mathlib.Core.Bool.{Bool, not, _&&_, _||_}
 use mathlib.Core.List.{List, [], _∷_}
 use Prim.Native.Nat.{ℕ, _+_, _*_}
 use lib.Dec.{ltb, leb, eqb}
@@ -11,8 +11,10 @@ use Rattle.ground.specs.Guard.{given}
 use Rattle.ground.specs.Lists.{build}
 use Rattle.wire.specs.Be.{be}
 use Rattle.distance.specs.Distance.{latitudeOk, longitudeOk}
-use Rattle.refusals.specs.Faults.{Fault, refusal, UnderEightBytes, MarkDiffers, VersionUnknown, SixthByteSet, CountOutside, LengthWrong, IdNotAscending, ChannelOutside, ClassOver, FlagsOver, LatitudeOutside, LongitudeOutside}
+use Rattle.refusals.specs.Faults.{Fault, refusal, UnderEightBytes, MarkDiffers, VersionUnknown, SixthByteSet, CountOutside, LengthWrong, IdNotAscending, ChannelOutside, ClassOver, FlagsOver, LatitudeOutside, LongitudeOutside, Repeated}
 use Rattle.versions.specs.Version.{known, carries, top}
+use Rattle.repeats.specs.Repeats.{firstRepeat}
+use Rattle.stations.specs.Lists.{twins}
 use Rattle.stations.specs.declared.Station.{Station}
 use Rattle.stations.specs.declared.Judged.{Judged}
 use Rattle.stations.specs.declared.Judged.the-variants.{Table, Refused}
@@ -99,9 +101,21 @@ scan t i last (r ∷ rs) = then (verdict t last i r) (scan t (i + 1) (r .id) rs)
 unfoldable pub scanned : List ℕ → Verdict
 scanned s = scan (top (version s)) 0 0 (stations s)
 
--- the stages, in the paper's order
+-- the records at two positions are twins
+unfoldable pub twinsAt : List ℕ → ℕ → ℕ → Bool
+twinsAt s i j = twins (stationAt s i) (stationAt s j)
+
+-- the position of the first record that repeats an earlier one; the count where none does
+unfoldable pub repeatOf : List ℕ → ℕ
+repeatOf s = firstRepeat (twinsAt s) (count s)
+
+-- the refusal 27 of the table
+unfoldable pub repeated : List ℕ → Verdict
+repeated s = given (ltb (repeatOf s) (count s)) (faulty (Repeated (repeatOf s))) Sound
+
+-- the stages, in the papers' order
 unfoldable pub stages : List ℕ → List Verdict
-stages s = headed s ∷ scanned s ∷ []
+stages s = headed s ∷ scanned s ∷ repeated s ∷ []
 
 -- the first fault of a row
 abbrev pub firstFault : List Verdict → Verdict

@@ -3,3 +3,4 @@ pub mod Image
 pub mod Scanning
 pub mod Encode
 pub mod Copying
+pub mod Meaning

@@ -1,5 +1,5 @@
--- Lists of stations: where an id stands or would stand, who is movable, a record set in, taken out or on another channel, and
--- what it is that no pair is near. Assumes nothing.
+-- Lists of stations: where an id stands or would stand, who is movable, which records are twins, a record set in, taken out or on
+-- another channel, and what it is that no pair is near. Assumes nothing.
 use mathlib.Core.Path.{_≡_}
 use mathlib.Core.Bool.{Bool, false, not, _&&_}
 use mathlib.Core.List.{List, [], _∷_, map}
@@ -7,6 +7,7 @@ use Prim.Native.Nat.{ℕ, _%_}
 use lib.Dec.{eqb, leb, ltb}
 use Rattle.ground.specs.Guard.{given}
 use Rattle.ground.specs.Lists.{_∈_, keep}
+use Rattle.ground.specs.Signed.{eqZ}
 use Rattle.stations.specs.declared.Station.{Station}
 
 -- ---- by id
@@ -33,6 +34,11 @@ movable r = eqb (r .flags % 2) 0 && ltb 220 (r .channel)
 abbrev pub onto : ℕ → Station → Station
 onto channel r =
     record { id = r .id; channel = channel; class = r .class; flags = r .flags; latitude = r .latitude; longitude = r .longitude }
+
+-- 02, R-7: two records that agree in channel, class, latitude and longitude; ids and flags are not compared
+unfoldable pub twins : Station → Station → Bool
+twins a b =
+    eqb (a .channel) (b .channel) && eqb (a .class) (b .class) && eqZ (a .latitude) (b .latitude) && eqZ (a .longitude) (b .longitude)
 
 -- ---- a changed list
 

@@ -1,8 +1,8 @@
-// The judgement of an image: its header, then its records.
+// The judgement of an image: its header, then its records, then whether one repeats another.
 ghost use mathlib.Core.Path.{_≡_};
 ghost use Prim.Native.Nat.{_/_, _≤_};
 ghost use lib.ListN.{length};
-ghost use Rattle.stations.specs.Image.{verdict, numbers as numbersOf, headed, scanned, judged, Headed};
+ghost use Rattle.stations.specs.Image.{verdict, numbers as numbersOf, headed, scanned, repeated, judged, Headed};
 ghost use Rattle.stations.specs.Scanning.{idBefore, Topped, Ahead, Passed, SoundTo};
 use crate::FOUR_RECORDS;
 use crate::HEADER;
@@ -190,7 +190,21 @@ fn records(table: &[u8]) -> Verdict
     Verdict::Sound
 }
 
-// Header, then records.
+// The refusal 27, of the first record that repeats an earlier one.
+fn repeat_of(table: &[u8]) -> Verdict
+    requires { ⌜ Headed (now table) ⌝ }
+    ensures { λ r. ⌜ r ≡ repeated (now (table .entry)) ⌝ }
+{
+    let n = count_of(table);
+    let i = repeats::first_repeat(table, n);
+    if i < n {
+        let position = i as u32;
+        return faulty(refusals::REPEATED, position);
+    }
+    Verdict::Sound
+}
+
+// Header, then records, then repeats.
 pub fn judge(table: &[u8]) -> Judged
     ensures { λ r. ⌜ r ≡ judged (now (table .entry)) ⌝ }
 {
@@ -200,6 +214,10 @@ pub fn judge(table: &[u8]) -> Judged
     }
     let v = records(table);
     if let Verdict::Faulty(f) = v {
+        return Judged::Refused(f);
+    }
+    let w = repeat_of(table);
+    if let Verdict::Faulty(f) = w {
         return Judged::Refused(f);
     }
     Judged::Table(count_of(table))

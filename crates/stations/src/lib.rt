@@ -11,6 +11,8 @@ pub use reading::record_from;
 pub use reading::station_at;
 pub use reading::turns_end;
 use refusals::Refusal;
+pub use versions::HEADER;
+pub use versions::RECORD;
 pub use writing::copy;
 pub use writing::put_header;
 pub use writing::put_station;
@@ -37,9 +39,5 @@ pub enum Verdict {
 }
 
 const MARK: [u8; 3] = *b"FMS";
-
-pub const HEADER: usize = 8;
-
-pub const RECORD: usize = 16;
 
 const FOUR_RECORDS: usize = 64;

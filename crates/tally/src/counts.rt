@@ -9,29 +9,32 @@ use scenes::SEED;
 use scenes::mixed;
 ghost use Prim.Native.Nat.{_+_, _≤_, _<_};
 
-// The counts, of 27 numbers (0 where it is granted) for each of eight questions; behind them those of the reasons, clear and by
+// The counts, of 28 numbers (0 where it is granted) for each of eight questions; behind them those of the reasons, clear and by
 // column; behind these those of the granted images, by version; those of the questions across the 180th meridian; those by the
 // lesser table; and last the digest.
-pub type Notes = [u64; 240];
+pub type Notes = [u64; 248];
 
 // Where the counts of the reasons start.
-pub(crate) const WAYS: usize = 216;
+pub(crate) const WAYS: usize = 224;
 
 // Where the counts of the granted images start.
-pub(crate) const IMAGES: usize = 221;
+pub(crate) const IMAGES: usize = 229;
 
 // Where the counts of the questions across the 180th meridian start.
-pub(crate) const MERIDIAN: usize = 225;
+pub(crate) const MERIDIAN: usize = 233;
 
 // Where the counts of the studies by the lesser table start.
-pub(crate) const LESSER: usize = 233;
+pub(crate) const LESSER: usize = 241;
+
+// The number of a table in which a record repeats an earlier one.
+const REPEATED: u64 = 27;
 
 // Where the digest stands.
-const DIGEST: usize = 239;
+const DIGEST: usize = 247;
 
 // Notes before the first question.
 pub fn fresh_notes() -> Notes {
-    let mut notes = [0u64; 240];
+    let mut notes = [0u64; 248];
     notes[DIGEST] = SEED;
     notes
 }
@@ -55,14 +58,14 @@ pub(crate) fn extra_of(answer: u64) -> u64
 
 // Where the count of a question's answers with a number stands.
 fn place(kind: u32, number: u64) -> usize
-    ensures { λ r. ⌜ r < 216 ⌝ }
+    ensures { λ r. ⌜ r < 224 ⌝ }
 {
-    ((kind % 8) * 27) as usize + (number % 27) as usize
+    ((kind % 8) * 28) as usize + (number % 28) as usize
 }
 
 // Adds one to the count at a place.
 pub(crate) fn count_one(notes: &mut Notes, at: usize)
-    requires { ⌜ at < 240 ⌝ }
+    requires { ⌜ at < 248 ⌝ }
 {
     notes[at] = std::num::wrapping_add_u64(notes[at], 1);
 }
@@ -76,6 +79,17 @@ pub fn note(notes: &mut Notes, kind: u32, answer: u64) {
 // How often a question was answered with a number.
 fn count_of(notes: &Notes, kind: u32, number: u64) -> u64 {
     notes[place(kind, number)]
+}
+
+// How often a table was refused because a record repeats an earlier one.
+pub fn repeats_noted(notes: &Notes) -> u64 {
+    let mut count: u64 = 0;
+    let mut kind: u32 = 0;
+    while kind < 8 {
+        count = std::num::wrapping_add_u64(count, count_of(notes, kind, REPEATED));
+        kind += 1;
+    }
+    count
 }
 
 // Whether a question other than read and distance can be refused with a number from 13 on.
@@ -101,7 +115,7 @@ fn possible(kind: u32, number: u64) -> bool {
     if kind == DISTANCE {
         return number == 17 || number == 24;
     }
-    if number <= 12 {
+    if number <= 12 || number == REPEATED {
         return true;
     }
     if kind == READ {
@@ -150,7 +164,7 @@ fn print_line(notes: &Notes, number: u64) -> u64
 
 // Writes the counts from a place up to another, and gives how many of them are 0.
 fn print_part(notes: &Notes, from: usize, to: usize) -> u64
-    requires { ⌜ (from ≤ to) × (to ≤ 240) ⌝ }
+    requires { ⌜ (from ≤ to) × (to ≤ 248) ⌝ }
     ensures { λ r. ⌜ r + from ≤ to ⌝ }
 {
     let mut missing: u64 = 0;
@@ -187,11 +201,11 @@ fn print_ways(notes: &Notes) -> u64
 
 // Writes the counts number by number, and gives how many of the possible answers never came.
 fn print_lines(notes: &Notes) -> u64
-    ensures { λ r. ⌜ r ≤ 216 ⌝ }
+    ensures { λ r. ⌜ r ≤ 224 ⌝ }
 {
     let mut missing: u64 = 0;
     let mut number: u64 = 0;
-    while number < 27 {
+    while number < 28 {
         missing += print_line(notes, number);
         number += 1;
     }

@@ -14,6 +14,7 @@ pub use counts::Notes;
 pub use counts::fresh_notes;
 pub use counts::note;
 pub use counts::print_counts;
+pub use counts::repeats_noted;
 pub use lesser::note_lesser;
 pub use likeness::alike_bytes;
 pub use likeness::alike_rows;

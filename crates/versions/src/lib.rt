@@ -9,6 +9,11 @@ const LINE: usize = 2000;
 // No list is longer.
 pub const LIMIT: usize = 4000;
 
+// The bytes of a header, and of a record, in every version.
+pub const HEADER: usize = 8;
+
+pub const RECORD: usize = 16;
+
 // The papers have this version.
 pub fn is_known(version: u16) -> bool
     ensures { λ r. ⌜ r ≡ known version ⌝ }

@@ -1,10 +1,12 @@
-// Big-endian numbers in a slice of bytes: 8, 16 and 32 bits, and 32 bits signed.
+// Big-endian numbers in a slice of bytes: 8, 16 and 32 bits, and 32 bits signed. And 16 and 32 bits with the lowest byte first, which
+// are for comparing bytes.
 ghost use mathlib.Core.Path.{_≡_};
 ghost use Prim.Native.Nat.{_+_, _≤_, _<_};
 ghost use lib.ListN.{length};
 ghost use mir.Syntax.{w32};
 ghost use mir.Val.{toZ, ofZ};
 ghost use Rattle.wire.specs.Be.{be, put};
+ghost use Rattle.wire.specs.Le.{le};
 
 // The number of one byte, as wide as a number that is asked.
 pub fn get8(s: &[u8], at: usize) -> u32
@@ -26,6 +28,20 @@ pub fn get32(s: &[u8], at: usize) -> u32
     ensures { λ r. ⌜ r ≡ be 4 (now (s .entry)) at ⌝ }
 {
     (get16(s, at) as u32) * 65536 + (get16(s, at + 2) as u32)
+}
+
+pub fn low16(s: &[u8], at: usize) -> u16
+    requires { ⌜ at + 2 ≤ length (now s) ⌝ }
+    ensures { λ r. ⌜ r ≡ le 2 (now (s .entry)) at ⌝ }
+{
+    (s[at + 1] as u16) * 256 + (s[at] as u16)
+}
+
+pub fn low32(s: &[u8], at: usize) -> u32
+    requires { ⌜ at + 4 ≤ length (now s) ⌝ }
+    ensures { λ r. ⌜ r ≡ le 4 (now (s .entry)) at ⌝ }
+{
+    (low16(s, at + 2) as u32) * 65536 + (low16(s, at) as u32)
 }
 
 // The bits of a number, read as signed.

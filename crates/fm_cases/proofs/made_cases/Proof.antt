@@ -8,7 +8,7 @@ abbrev Inv-loop : tie.InvT-loop
 Inv-loop notes₀ table₀ mine₀ other₀ state₀ k₀ notes table mine other state k = Unit {0}
 
 abbrev μ-loop : tie.MeasureT-loop
-μ-loop notes₀ table₀ mine₀ other₀ state₀ k₀ notes table mine other state k = 23 - k
+μ-loop notes₀ table₀ mine₀ other₀ state₀ k₀ notes table mine other state k = 26 - k
 
 loop-holds : tie.Need-loop-holds Inv-loop μ-loop
 loop-holds c = search needs

@@ -8,7 +8,7 @@ abbrev Inv-loop : tie.InvT-loop
 Inv-loop notes₀ k₀ notes k = Unit {0}
 
 abbrev μ-loop : tie.MeasureT-loop
-μ-loop notes₀ k₀ notes k = 90 - k
+μ-loop notes₀ k₀ notes k = 96 - k
 
 loop-holds : tie.Need-loop-holds Inv-loop μ-loop
 loop-holds c = search needs

@@ -4,10 +4,13 @@ use Rattle.fm_cases.proofs.made.run_cases.Statement.{statement}
 use Rattle.fm_cases.proofs.made.run_cases.Tie as tie
 
 abbrev Inv-loop : tie.InvT-loop
-Inv-loop run state₀ table₀ mine₀ other₀ notes₀ left₀ state table mine other notes left = Unit {0}
+Inv-loop run state₀ table₀ mine₀ other₀ notes₀ before left₀ state table mine other notes left = Unit {0}
 
 abbrev μ-loop : tie.MeasureT-loop
-μ-loop run state₀ table₀ mine₀ other₀ notes₀ left₀ state table mine other notes left = left
+μ-loop run state₀ table₀ mine₀ other₀ notes₀ before left₀ state table mine other notes left = left
+
+repeats-noted-requires : tie.Need-repeats-noted-requires Inv-loop μ-loop
+repeats-noted-requires c κs = search needs
 
 loop-holds : tie.Need-loop-holds Inv-loop μ-loop
 loop-holds c = search needs
@@ -30,16 +33,25 @@ loop-again c = search needs
 returns-2 : tie.Need-returns-2 Inv-loop μ-loop
 returns-2 c = search needs
 
+none-repeated-requires : tie.Need-none-repeated-requires Inv-loop μ-loop
+none-repeated-requires c κs = search needs
+
+returns-3 : tie.Need-returns-3 Inv-loop μ-loop
+returns-3 c = search needs
+
 pub run-cases-spec : {M : Type 1} → statement M
 run-cases-spec =
     tie.close
     (tie.spec
     Inv-loop
     μ-loop
+    repeats-noted-requires
     loop-holds
     one-case-requires
     returns
     sub-left
     loop-less
     loop-again
-    returns-2)
+    returns-2
+    none-repeated-requires
+    returns-3)

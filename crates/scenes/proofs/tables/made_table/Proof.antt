@@ -21,8 +21,8 @@ put-header-requires c κs = search needs
 loop-holds : tie.Need-loop-holds Inv-loop μ-loop
 loop-holds c = search needs
 
-made-record-requires : tie.Need-made-record-requires Inv-loop μ-loop
-made-record-requires c κs = search needs
+fresh-record-requires : tie.Need-fresh-record-requires Inv-loop μ-loop
+fresh-record-requires c κs = search needs
 
 put-record-requires : tie.Need-put-record-requires Inv-loop μ-loop
 put-record-requires c κs = search needs
@@ -60,7 +60,7 @@ made-table-spec =
     cast-put-header
     put-header-requires
     loop-holds
-    made-record-requires
+    fresh-record-requires
     put-record-requires
     either-requires
     wrapping-add-u32-requires

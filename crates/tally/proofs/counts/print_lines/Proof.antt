@@ -5,10 +5,10 @@ use Rattle.tally.proofs.counts.print_lines.Statement.{statement}
 use Rattle.tally.proofs.counts.print_lines.Tie as tie
 
 abbrev Inv-loop : tie.InvT-loop
-Inv-loop notes missing₀ number₀ missing number = (missing ≤ 8 * number) × (number ≤ 27)
+Inv-loop notes missing₀ number₀ missing number = (missing ≤ 8 * number) × (number ≤ 28)
 
 abbrev μ-loop : tie.MeasureT-loop
-μ-loop notes missing₀ number₀ missing number = 27 - number
+μ-loop notes missing₀ number₀ missing number = 28 - number
 
 loop-holds : tie.Need-loop-holds Inv-loop μ-loop
 loop-holds c = search needs
