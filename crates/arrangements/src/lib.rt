@@ -1,4 +1,6 @@
 // Arrange: every clean arrangement of a new station of a class at a site, on each new channel of a range.
+#![tactic(auto)]
+
 ghost use Rattle.desk.specs.Answers.{Answered};
 ghost use Rattle.arrangements.specs.Arrange.{arranged_for};
 

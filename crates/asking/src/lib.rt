@@ -1,4 +1,6 @@
 // From the whole input of a program to its question: what is proposed stands first, the table after it.
+#![tactic(auto)]
+
 ghost use Rattle.std.specs.Prelude.{◌≡◌, length, ◌+◌, ◌≤◌};
 ghost use Rattle.desk.specs.Answers.{Answered};
 ghost use Rattle.reasons.specs.Reason.{outcome_of};

@@ -1,4 +1,6 @@
 // The two implementations side by side: a question put to each, and what they answer compared.
+#![tactic(auto)]
+
 mod comparing;
 mod lesser;
 mod limits;

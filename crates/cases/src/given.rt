@@ -12,7 +12,7 @@ use super::twice::{put_both_ends, put_twice, twice_case};
 use scenes::{Record, Site, put_any_header, put_header, put_record};
 
 // A question; its answer with all the room for rows, and with one place; and the first four numbers behind it.
-#[derive(Drop)]
+#[derive(Clone, Copy)]
 pub struct Given {
     pub question: Question,
     pub answer: u64,

@@ -3,7 +3,7 @@ use super::given::REFUSED;
 use scenes::{LIMIT, LINE};
 
 // A header, and the answer of read.
-#[derive(Drop)]
+#[derive(Clone, Copy)]
 pub(crate) struct Header {
     pub(crate) version: u32,
     pub(crate) sixth: u32,

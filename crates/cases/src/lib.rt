@@ -1,4 +1,6 @@
 // The paper's questions and those with given answers, made questions, and the runs of made cases.
+#![tactic(auto)]
+
 mod asking;
 mod chosen;
 mod given;

@@ -17,7 +17,7 @@ pub const REASON: u32 = 7;
 
 // What is asked: which question, and the numbers of all questions; check, arrange and reason leave the id aside and go by the
 // standard; coordinates are words.
-#[derive(Drop)]
+#[derive(Clone, Copy)]
 pub struct Question {
     pub kind: u32,
     pub id: u32,

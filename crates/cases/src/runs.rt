@@ -21,7 +21,7 @@ const MOVE_OR_WITHDRAW: u32 = 10;
 pub const RUNS: u32 = 26;
 
 // A run: how many cases, which question, at least how many records and how many more, their style, damaged or not.
-#[derive(Drop)]
+#[derive(Clone, Copy)]
 pub struct Run {
     pub cases: u32,
     pub question: u32,

@@ -1,4 +1,6 @@
 // Add, Withdraw and Move: the new image in a second buffer.
+#![tactic(auto)]
+
 ghost use Rattle.std.specs.Prelude.{◌≡◌};
 ghost use Rattle.desk.specs.Answers.{Answered};
 ghost use Rattle.changes.specs.Changes.{add as adding, withdraw as withdrawing, move as moving, entering, written, changed_for};
@@ -13,7 +15,7 @@ use part73::{HIGHEST_ASKED, LOWEST_ASKED};
 use stations::{Judged, Station, Verdict};
 
 // What is asked to be added.
-#[derive(Drop)]
+#[derive(Clone, Copy)]
 pub struct Newcomer {
     pub id: u32,
     pub channel: u32,

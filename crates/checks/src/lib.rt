@@ -1,4 +1,6 @@
 // Check: the stations that a proposal is short to, each with its D and R.
+#![tactic(auto)]
+
 ghost use Rattle.std.specs.Prelude.{◌≡◌};
 ghost use Rattle.spacing.specs.Pair.{sited};
 ghost use Rattle.stations.specs.Image.{stations};
@@ -20,7 +22,7 @@ use writing::put_noted;
 
 // What is proposed: a station of a class on a channel at a site, in a zone; the id of the record that is left aside, 0 for none;
 // and the standard.
-#[derive(Drop)]
+#[derive(Clone, Copy)]
 pub struct Proposal {
     pub channel: u32,
     pub class: u32,

@@ -1,4 +1,6 @@
 // What all questions share, and the two questions without a buffer: read, and the distance of two sites.
+#![tactic(auto)]
+
 ghost use Rattle.std.specs.Prelude.{◌≡◌};
 ghost use Rattle.desk.specs.Answers.{leave};
 ghost use Rattle.desk.specs.Asked.{site_ok, class_fault, kind_fault, site_fault, asked_fault};
@@ -9,13 +11,13 @@ use refusals::Refusal;
 use stations::{Judged, Verdict};
 
 // The count that was written (or the D that was asked for), or the refusal.
-#[derive(Drop)]
+#[derive(Clone, Copy)]
 pub enum Answer {
     Granted(u32),
     Refused(Refusal),
 }
 
-#[derive(Drop)]
+#[derive(Clone, Copy)]
 pub struct Site {
     pub latitude: i32,
     pub longitude: i32,

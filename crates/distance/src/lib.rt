@@ -1,4 +1,6 @@
 // The distance of two sites in whole numbers: 47 CFR 73.208(c), as 01 puts it in integers.
+#![tactic(auto)]
+
 ghost use Rattle.std.specs.Prelude.{◌≡◌, ◌+◌, ◌*◌, ◌/◌, ◌≤◌, ◌<◌, ℤ, pos, nat_abs, ◌+ℤ◌, ◌-ℤ◌, ◌*ℤ◌};
 ghost use Rattle.distance.specs.Distance.{◌÷◌, E, next, series, lon_gap, P, Q, S, root, D, latitude_ok, longitude_ok, Placed};
 ghost use Rattle.distance.specs.Bounds.{LeastScale, MostHalves};
@@ -58,7 +60,7 @@ fn q_of(c1: i64, c3: i64, c5: i64) -> i64
 }
 
 // The length of a degree of latitude and of one of longitude.
-#[derive(Drop)]
+#[derive(Clone, Copy)]
 pub struct Scales {
     pub p: u64,
     pub q: u64,

@@ -1,4 +1,6 @@
 // The record that a change names, and the first record that stands in its way.
+#![tactic(auto)]
+
 ghost use Rattle.std.specs.Prelude.{◌≡◌};
 ghost use Rattle.ground.specs.Lists.{some, first};
 ghost use Rattle.stations.specs.Image.{stations};

@@ -1,4 +1,6 @@
 // Both implementations on the paper's cases and on many made ones; the first difference is shown, and ends the program.
+#![tactic(auto)]
+
 mod given;
 mod limits;
 mod made;

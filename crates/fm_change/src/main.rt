@@ -1,4 +1,6 @@
 // Add, Withdraw or Move, on standard input and output: the new image.
+#![tactic(auto)]
+
 fn main() {
     programs::run(programs::Program::Change, 0);
 }

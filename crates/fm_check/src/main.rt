@@ -1,4 +1,6 @@
 // Check, on standard input and output: the stations that a proposal is short to.
+#![tactic(auto)]
+
 fn main() {
     programs::run(programs::Program::Check, 0);
 }

@@ -1,4 +1,6 @@
 // Why a channel is blocked, on standard input and output.
+#![tactic(auto)]
+
 fn main() {
     programs::run(programs::Program::Reason, 0);
 }

@@ -1,6 +1,8 @@
 // The programs on stored inputs: each argument names a file, and the program that reads it.
 
 // Whether a name begins with a word.
+#![tactic(auto)]
+
 fn begins(name: &[u8], word: &[u8]) -> bool {
     if name.len() < word.len() {
         return false;

@@ -1,4 +1,6 @@
 // A study, on standard input and output: a Check or an Arrange with an id left aside, or the distance between two sites.
+#![tactic(auto)]
+
 fn main() {
     programs::run(programs::Program::Study, 0);
 }

@@ -1,4 +1,6 @@
 // The questions for other languages: what include/fms.h declares.
+#![tactic(auto)]
+
 ghost use Rattle.std.specs.Prelude.{◌≡◌, ◌/◌, ◌%◌};
 ghost use Rattle.part73.specs.TableA.{table_a};
 ghost use Rattle.squares.specs.Squares.{limit_for};

@@ -1,5 +1,7 @@
 // A frame around a site, as a walk over records goes by it: the box outside of which nobody is short, in the bits of the
 // coordinates, also where it lies over the 180th meridian.
+#![tactic(auto)]
+
 ghost use Rattle.std.specs.Prelude.{◌≡◌, ℕ, ◌≤◌, unsigned_abs};
 ghost use Rattle.distance.specs.Distance.{lon_gap};
 ghost use Rattle.spacing.specs.Limits.{Limited, ByTable};
@@ -9,14 +11,14 @@ ghost use Rattle.framing.specs.Frames.{past, Centred, Holds, Encloses};
 use spacing::{Limits, Place};
 
 // Coordinates by their bits: those of `low`, and the ones up to `size` above, the highest followed by 0.
-#[derive(Drop)]
+#[derive(Clone, Copy)]
 pub struct Span {
     pub low: u32,
     pub size: u32,
 }
 
 // The latitudes and the longitudes inside.
-#[derive(Drop)]
+#[derive(Clone, Copy)]
 pub struct Frame {
     pub latitudes: Span,
     pub longitudes: Span,

@@ -1,4 +1,6 @@
 // The answer to a change that is granted: the image of the new list where it fits, or 22 with the bytes that it needs.
+#![tactic(auto)]
+
 ghost use Rattle.std.specs.Prelude.{◌∷◌, ◌++◌, take, drop};
 ghost use Rattle.stations.specs.Image.{station_at, stations};
 ghost use Rattle.stations.specs.Encode.{encode};

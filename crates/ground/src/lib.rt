@@ -1,4 +1,6 @@
 // Rows of three numbers, written into a lent buffer as far as it reaches.
+#![tactic(auto)]
+
 ghost use Rattle.std.specs.Prelude.{◌≡◌, cond, [], ◌∷◌, ◌≤◌, set};
 ghost use Rattle.ground.specs.Writing.{Wrote};
 

@@ -1,4 +1,6 @@
 // Lines of decimal numbers, put into a buffer of bytes.
+#![tactic(auto)]
+
 ghost use Rattle.std.specs.Prelude.{◌+◌, ◌-◌, ◌*◌, ◌≤◌, length, [], ◌∷◌};
 ghost use Rattle.ground.specs.Lists.{span, each};
 ghost use Rattle.ground.specs.Writing.{Wrote};

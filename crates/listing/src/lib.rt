@@ -1,4 +1,6 @@
 // The rows that are written, from the marks of the new channels and the flags of the moves.
+#![tactic(auto)]
+
 ghost use Rattle.std.specs.Prelude.{◌+◌, ◌*◌, ◌≤◌};
 ghost use Rattle.part73.specs.Channels.{channel_count};
 ghost use Rattle.ground.specs.Writing.{Wrote};

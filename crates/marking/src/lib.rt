@@ -1,4 +1,6 @@
 // Marks on the channels from 221 to 300: where a station of a class at a site is short to another.
+#![tactic(auto)]
+
 ghost use Rattle.std.specs.Prelude.{◌≡◌, ◌&&◌, ◌+◌, ◌≤◌, ◌<◌, max, min, leb, length};
 ghost use Rattle.part73.specs.Channels.{lowest, highest, channel_count};
 ghost use Rattle.part73.specs.Columns.{gap};
@@ -9,7 +11,7 @@ use part73::{CHANNEL_COUNT, HIGHEST, LOWEST};
 use spacing::Reach;
 
 // New channels, from first to last.
-#[derive(Drop)]
+#[derive(Clone, Copy)]
 pub struct Channels {
     pub first: usize,
     pub last: usize,

@@ -1,5 +1,7 @@
 // The records that a station on a channel, of a class at a site, is short to, of those that are looked at: one after the other,
 // and their positions.
+#![tactic(auto)]
+
 ghost use Rattle.spacing.specs.Pair.{sited};
 ghost use Rattle.survey.specs.Ways.{looked, chosen_for};
 ghost use Rattle.nearby.specs.Positions.{short_positions, Search, NextShort, Notes, Noted};

@@ -1,5 +1,7 @@
 // What is told of a record beside a station on a channel: its id, D, R and the column that applies; and which of two stands
 // more in the way.
+#![tactic(auto)]
+
 ghost use Rattle.std.specs.Prelude.{◌≡◌, ℕ};
 ghost use Rattle.distance.specs.Distance.{S, D};
 ghost use Rattle.part73.specs.Reading.{Tabled};
@@ -13,7 +15,7 @@ use part73::Rows;
 use spacing::Place;
 
 // D and R are in km; the column is 0 to 3, or 4 where none applies.
-#[derive(Drop)]
+#[derive(Clone, Copy)]
 pub struct Neighbour {
     pub id: u32,
     pub distance: u32,

@@ -1,5 +1,7 @@
 // What 47 CFR Part 73 decides: the classes that a zone permits, the column of a channel difference, the rows of Table A, and
 // which row is that of two classes.
+#![tactic(auto)]
+
 ghost use Rattle.std.specs.Prelude.{◌≡◌, ◌≤◌, ◌<◌};
 ghost use Rattle.part73.specs.Classes.{is_class, is_zone, permits};
 ghost use Rattle.part73.specs.Columns.{gap, column};

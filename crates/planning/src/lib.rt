@@ -1,4 +1,6 @@
 // Where the lone blocker of a new channel may go: a row of flags for each new channel, from the first one asked for.
+#![tactic(auto)]
+
 ghost use Rattle.std.specs.Prelude.{◌≡◌, ◌||◌, suc, eqb, length};
 ghost use Rattle.part73.specs.Channels.{channel_count};
 ghost use Rattle.part73.specs.Columns.{gap};
@@ -14,7 +16,7 @@ use squares::Squares;
 use survey::Terms;
 
 // The station that a mark is of: its channel, and how far it and the new station reach.
-#[derive(Drop)]
+#[derive(Clone, Copy)]
 pub struct Blocker {
     pub mark: u16,
     pub own: usize,

@@ -1,4 +1,6 @@
 // The programs: each tells all that it prints of its input.
+#![tactic(auto)]
+
 ghost use Rattle.std.specs.Prelude.{◌≡◌, ◌+◌, ◌-◌, ◌*◌, ◌≤◌, length};
 ghost use Rattle.ground.specs.Writing.{Wrote};
 ghost use Rattle.part73.specs.Channels.{channel_count};
@@ -17,7 +19,7 @@ use survey::Terms;
 use telling::{Channel, put_answer, tell_change, tell_check, tell_distance, tell_reason};
 
 // What a program asks.
-#[derive(Drop)]
+#[derive(Clone, Copy)]
 pub enum Program {
     Check,
     Arrange,

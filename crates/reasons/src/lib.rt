@@ -1,4 +1,6 @@
 // Why a channel is blocked: the station in the way that is short by the most, and its own bytes of the lent table.
+#![tactic(auto)]
+
 ghost use Rattle.std.specs.Prelude.{◌≡◌, take};
 ghost use Rattle.part73.specs.Standards.{chosen};
 ghost use Rattle.spacing.specs.Pair.{sited};
@@ -20,7 +22,7 @@ use survey::Terms;
 use versions::LIMIT;
 
 // Nobody is in the way; or the station that is named; or a refusal.
-#[derive(Drop)]
+#[derive(Clone, Copy)]
 pub enum Why {
     Clear,
     Blocked(Neighbour),
@@ -28,7 +30,7 @@ pub enum Why {
 }
 
 // The answer, and the named station's own sixteen bytes of the lent table; none where no station is named.
-#[derive(Drop)]
+#[derive(Clone, Copy)]
 pub struct ReasonSheet<'a> {
     pub part: &'a [u8],
     pub answer: Why,

@@ -1,7 +1,9 @@
 // The refusals of 01 and 02: a number with a name, and what it returns also.
 
 // A refusal's extra number, which is a position, the room needed, or 0; and its number.
-#[derive(Drop)]
+#![tactic(auto)]
+
+#[derive(Clone, Copy)]
 pub struct Refusal {
     pub extra: u32,
     pub number: u32,

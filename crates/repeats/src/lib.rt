@@ -1,4 +1,6 @@
 // Which record of a table repeats an earlier one: it agrees with it in channel, class, latitude and longitude.
+#![tactic(auto)]
+
 ghost use Rattle.std.specs.Prelude.{◌≡◌, ◌*◌, ◌/◌, ◌<◌};
 ghost use Rattle.versions.specs.Version.{limit};
 ghost use Rattle.repeats.specs.Repeats.{FirstRepeat};
@@ -20,7 +22,7 @@ const NONE: u16 = (2 * LIMIT) as u16;
 
 // What of a record is compared but for the high byte of its channel: the low byte and its class in one number, and the bytes of its
 // latitude and of its longitude in one each. The lowest byte comes first: so they are read at once.
-#[derive(Drop)]
+#[derive(Clone, Copy)]
 struct Subject {
     kind: u16,
     north: u32,

@@ -6,7 +6,7 @@ use super::sizes::version_for;
 use super::words::Site;
 
 // A record's fields.
-#[derive(Drop)]
+#[derive(Clone, Copy)]
 pub struct Record {
     pub id: u32,
     pub channel: u32,

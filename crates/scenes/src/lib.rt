@@ -1,4 +1,6 @@
 // Made tables: numbers from a fixed seed, sites at the limits, records around what is asked, some that repeat others, and damage.
+#![tactic(auto)]
+
 mod chance;
 mod damage;
 mod image;

@@ -8,7 +8,7 @@ pub(crate) const LATITUDES: u32 = 540_000;
 pub(crate) const LONGITUDES: u32 = 1_296_000;
 
 // A site in two words.
-#[derive(Drop)]
+#[derive(Clone, Copy)]
 pub struct Site {
     pub lat: u32,
     pub lon: u32,

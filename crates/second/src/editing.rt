@@ -1,5 +1,5 @@
 // The questions add, withdraw and move.
-ghost use Rattle.std.specs.Prelude.{◌≤◌, ◌<◌};
+ghost use Rattle.std.specs.Prelude.{◌≤◌, ◌<◌, length};
 ghost use Rattle.second.specs.Answer.{Packed};
 ghost use Rattle.second.specs.Sizes.{capacity};
 
@@ -46,7 +46,7 @@ fn put_moved(table: &[u8], n: usize, p: usize, moved: Station, image: &mut [u8])
 // Sets a station into a table of n stations.
 fn add_to(table: &[u8], n: usize, new: Station, image: &mut [u8]) -> u64
     requires { n ≤ capacity }
-    ensures* { do ⌜ Packed (← (⟦image.len()⟧).entry) result ⌝ }
+    ensures { Packed (length image.old) result }
 {
     let id = new.id;
     if id == 0 {
@@ -82,7 +82,7 @@ pub fn add(
     lon: i32,
     image: &mut [u8],
 ) -> u64
-    ensures* { do ⌜ Packed (← (⟦image.len()⟧).entry) result ⌝ }
+    ensures { Packed (length image.old) result }
 {
     let judged = judge(table);
     let number = judged.number;
@@ -103,7 +103,7 @@ pub fn add(
 
 // The image without the station of an id.
 pub fn withdraw(table: &[u8], id: u32, image: &mut [u8]) -> u64
-    ensures* { do ⌜ Packed (← (⟦image.len()⟧).entry) result ⌝ }
+    ensures { Packed (length image.old) result }
 {
     let judged = judge(table);
     let number = judged.number;
@@ -126,7 +126,7 @@ pub fn withdraw(table: &[u8], id: u32, image: &mut [u8]) -> u64
 // Moves the station of an id, in a table of n stations, to a channel.
 fn move_in(table: &[u8], n: usize, id: u64, channel: u64, image: &mut [u8]) -> u64
     requires { n ≤ capacity }
-    ensures* { do ⌜ Packed (← (⟦image.len()⟧).entry) result ⌝ }
+    ensures { Packed (length image.old) result }
 {
     let p = position(table, n, id);
     if n <= p {
@@ -151,7 +151,7 @@ fn move_in(table: &[u8], n: usize, id: u64, channel: u64, image: &mut [u8]) -> u
 
 // The image with the station of an id on another channel.
 pub fn move_to(table: &[u8], id: u32, channel: u32, image: &mut [u8]) -> u64
-    ensures* { do ⌜ Packed (← (⟦image.len()⟧).entry) result ⌝ }
+    ensures { Packed (length image.old) result }
 {
     let judged = judge(table);
     let number = judged.number;

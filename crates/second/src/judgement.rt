@@ -84,7 +84,7 @@ fn field_fault(s: Station) -> u64
 }
 
 // A table's judgement: the refusal's number and extra number, or 0 and 0 with the number of stations.
-#[derive(Drop)]
+#[derive(Clone, Copy)]
 pub(crate) struct Judged {
     pub(crate) number: u64,
     pub(crate) extra: u64,

@@ -1,5 +1,7 @@
 // The eight questions of the desk a second time: plain enumeration, numbers as sign and size, D by search; and the limit.
 // An answer below 2^32 is granted (a count, D, or a place); any other is a refusal's number times 2^32 plus its extra number.
+#![tactic(auto)]
+
 mod answer;
 mod big_endian;
 mod editing;

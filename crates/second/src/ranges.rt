@@ -6,7 +6,7 @@ ghost use Rattle.second.specs.Sizes.{capacity};
 pub(crate) const CAPACITY: usize = 4_000;
 
 // The least and the most stations of a version.
-#[derive(Drop)]
+#[derive(Clone, Copy)]
 pub(crate) struct Range {
     pub(crate) least: u64,
     pub(crate) most: u64,

@@ -6,7 +6,7 @@ use super::big_endian::{four, one, two};
 
 // A station or a proposal; the site counts from the southern and the western end of its range. What is proposed to check, arrange
 // or reason has the id of the station left aside, 0 for none.
-#[derive(Drop)]
+#[derive(Clone, Copy)]
 pub(crate) struct Station {
     pub(crate) id: u64,
     pub(crate) channel: u64,

@@ -1,6 +1,8 @@
 // The pair rule a second time: Table A in numbers of twelve digits, the lesser table in numbers of nine, the distance by numbers as
 // sign and size.
 
+#![tactic(auto)]
+
 mod chosen;
 mod lesser;
 mod signed;

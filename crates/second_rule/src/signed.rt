@@ -2,7 +2,7 @@
 ghost use Rattle.std.specs.Prelude.{◌≡◌, ◌+◌, ◌-◌, ◌≤◌};
 
 // A number: its size, and whether it stands below zero.
-#[derive(Drop)]
+#[derive(Clone, Copy)]
 pub(crate) struct Signed {
     pub(crate) minus: bool,
     pub(crate) size: u64,

@@ -1,4 +1,6 @@
 // The pair rule: the separation that applies to two stations, and whether they are short.
+#![tactic(auto)]
+
 ghost use Rattle.std.specs.Prelude.{◌≡◌, ℕ, ◌<◌};
 ghost use Rattle.distance.specs.Distance.{S};
 ghost use Rattle.part73.specs.Reading.{Tabled};
@@ -15,7 +17,7 @@ use part73::Rows;
 pub use surroundings::box_around;
 
 // A class at a site.
-#[derive(Drop)]
+#[derive(Clone, Copy)]
 pub struct Place {
     pub class: usize,
     pub latitude: i32,
@@ -26,14 +28,14 @@ pub struct Place {
 pub type Limits = [u64; 48];
 
 // How far along the channels two stations reach.
-#[derive(Drop)]
+#[derive(Clone, Copy)]
 pub struct Reach {
     pub steps: usize,
     pub far: bool,
 }
 
 // A box around a site: less than `up` seconds of latitude and less than `across` seconds of longitude from it.
-#[derive(Drop)]
+#[derive(Clone, Copy)]
 pub struct Around {
     pub latitude: i32,
     pub longitude: i32,

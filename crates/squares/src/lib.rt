@@ -1,4 +1,6 @@
 // The squared limits that the pair rule holds S to: a table for all pairs of classes, and one entry of it.
+#![tactic(auto)]
+
 ghost use Rattle.std.specs.Prelude.{◌≡◌};
 ghost use Rattle.part73.specs.TableA.{table_a};
 ghost use Rattle.squares.specs.Squares.{squared_limits, limit_for};

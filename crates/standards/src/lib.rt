@@ -1,4 +1,6 @@
 // The table of separations that a standard chooses: its rows, one of its separations, the co-channel ones of a class, and its squares.
+#![tactic(auto)]
+
 ghost use Rattle.std.specs.Prelude.{◌≡◌, ℕ, ◌<◌};
 ghost use Rattle.part73.specs.Standards.{is_standard, chosen};
 ghost use Rattle.part73.specs.Reading.{rows_of, Tabled, CoChannel};

@@ -1,4 +1,6 @@
 // The table image: judged in the paper's order, read by position, and written.
+#![tactic(auto)]
+
 mod judging;
 mod reading;
 mod writing;
@@ -9,7 +11,7 @@ use refusals::Refusal;
 pub use versions::{HEADER, RECORD};
 pub use writing::{copy, put_header, put_station};
 
-#[derive(Drop)]
+#[derive(Clone, Copy)]
 pub struct Station {
     pub id: u32,
     pub channel: u16,
@@ -20,14 +22,14 @@ pub struct Station {
 }
 
 // A table of so many records, or its refusal.
-#[derive(Drop)]
+#[derive(Clone, Copy)]
 pub enum Judged {
     Table(usize),
     Refused(Refusal),
 }
 
 // What is found: nothing wrong, or the first fault.
-#[derive(Drop)]
+#[derive(Clone, Copy)]
 pub enum Verdict {
     Sound,
     Faulty(Refusal),

@@ -1,4 +1,6 @@
 // Standard input and output: the one place where bytes come from the system and are handed to it.
+#![tactic(auto)]
+
 ghost use Rattle.std.specs.Prelude.{◌≡◌, ◌+◌, ◌≤◌, length, take};
 ghost use Rattle.streams.specs.Pieces.{Roomed};
 ghost use Rattle.streams.specs.Tells.{Came, Tells};
@@ -10,7 +12,7 @@ const OUT: i32 = 1;
 pub const SPACE: usize = 65_536;
 
 // A place in the text, and whether all that had to be written was written.
-#[derive(Drop)]
+#[derive(Clone, Copy)]
 pub struct Place {
     pub at: usize,
     pub whole: bool,

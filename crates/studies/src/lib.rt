@@ -1,4 +1,6 @@
 // What the studies of a table share: what is wanted of one, and what is wrong with it.
+#![tactic(auto)]
+
 ghost use Rattle.std.specs.Prelude.{◌≡◌};
 ghost use Rattle.stations.specs.Image.{stations, Accepted};
 ghost use Rattle.studies.specs.Studies.{place_asked, channels_asked, terms_asked, standard_fault, wanted_fault, aside_fault, study_fault};
@@ -11,7 +13,7 @@ use survey::Terms;
 
 // What is wanted: a new station on one of the channels from first to last, its class, zone and site, the id of the record that is
 // left aside, 0 for none, and the standard.
-#[derive(Drop)]
+#[derive(Clone, Copy)]
 pub struct Wanted {
     pub first: u32,
     pub last: u32,

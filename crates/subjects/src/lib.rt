@@ -1,4 +1,6 @@
 // What an input of `fm_study` asks: its letter, and the terms after it.
+#![tactic(auto)]
+
 ghost use Rattle.std.specs.Prelude.{◌≡◌, ◌+◌, ◌≤◌, length};
 ghost use Rattle.subjects.specs.Subjects.{terms_length, terms_at, subject_of};
 
@@ -15,7 +17,7 @@ pub const TERMS: usize = 5;
 pub const AFTER_TERMS: usize = 1 + TERMS;
 
 // What is studied, and on which terms.
-#[derive(Drop)]
+#[derive(Clone, Copy)]
 pub enum Subject {
     Check(Terms),
     Arrange(Terms),

@@ -1,5 +1,7 @@
 // Who stands in the way of a class at a site: whether one record of the table does, and who does on each channel of a range, by
 // one walk over the table.
+#![tactic(auto)]
+
 ghost use Rattle.std.specs.Prelude.{◌≡◌, ◌<◌};
 ghost use Rattle.spacing.specs.Pair.{sited};
 ghost use Rattle.stations.specs.Image.{count};
@@ -16,7 +18,7 @@ use stations::Station;
 
 // What a question goes by beside class and site: the id of the record that it leaves aside, 0 for none, and the standard, by which
 // the separations are chosen.
-#[derive(Drop)]
+#[derive(Clone, Copy)]
 pub struct Terms {
     pub aside: u32,
     pub standard: u32,

@@ -1,4 +1,6 @@
 // The answers of `fm_cases` compared, counted by question and number and mixed into a digest, and the first difference shown.
+#![tactic(auto)]
+
 mod changed;
 mod counts;
 mod lesser;

@@ -2,7 +2,7 @@
 ghost use Rattle.std.specs.Prelude.{◌≤◌};
 
 // Three numbers of a row.
-#[derive(Drop)]
+#[derive(Clone, Copy)]
 pub struct Row {
     pub a: u32,
     pub b: u32,

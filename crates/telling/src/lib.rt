@@ -1,4 +1,6 @@
 // The answers of the programs, told in lines or as an image; they go to standard output.
+#![tactic(auto)]
+
 ghost use Rattle.std.specs.Prelude.{◌≡◌, ◌+◌, ◌-◌, ◌*◌, ◌/◌, ◌≤◌, ◌<◌, length, take};
 ghost use Rattle.ground.specs.Writing.{Wrote};
 ghost use Rattle.lines.specs.Lines.{refused_line};
@@ -16,7 +18,7 @@ use refusals::Refusal;
 use streams::{hand, room};
 
 // What one new channel leaves in the text: the place after it, and whether it was refused.
-#[derive(Drop)]
+#[derive(Clone, Copy)]
 pub struct Channel {
     pub at: usize,
     pub refused: bool,

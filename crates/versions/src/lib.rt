@@ -1,4 +1,6 @@
 // The versions of the image, and how many records each carries.
+#![tactic(auto)]
+
 ghost use Rattle.std.specs.Prelude.{◌≡◌, leb};
 ghost use Rattle.versions.specs.Version.{known, carries, top, limit, version_for};
 

@@ -1,5 +1,7 @@
 // Big-endian numbers in a slice of bytes: 8, 16 and 32 bits, and 32 bits signed. And 16 and 32 bits with the lowest byte first, which
 // are for comparing bytes.
+#![tactic(auto)]
+
 ghost use Rattle.std.specs.Prelude.{◌≡◌, ◌+◌, ◌≤◌, ◌<◌, length};
 ghost use Rattle.std.specs.Int.{w32};
 ghost use Rattle.std.proofs.Common.{to_z, of_z};
