@@ -14,7 +14,7 @@ use Rattle.ground.specs.Rows.{Row, row, flat}
 use Rattle.ground.proofs.Guards.{and_was, and_both}
 use Rattle.ground.proofs.Tests.{fails, fails_where}
 use Rattle.ground.proofs.Keeps.{every_in}
-use Rattle.ground.proofs.Order.{in-each, in_map, in-keep, in_span, Ascending, none, ahead, Strict, By, strict_by, strict_then, one_ascending, ascending_span, ascending_keep, ascending_map, ascending_each}
+use Rattle.ground.proofs.Order.{in_each, in_map, in_keep, in_span, Ascending, none, ahead, Strict, By, strict_by, strict_then, one_ascending, ascending_span, ascending_keep, ascending_map, ascending_each}
 use Rattle.part73.specs.Channels.{lowest, highest, channel_count, new_channels}
 use Rattle.part73.specs.Standards.{chosen}
 use Rattle.spacing.specs.Pair.{Assignment}
@@ -46,8 +46,8 @@ module _ (km : ℕ → ℕ → ℕ → ℕ) (ss : List Station) where
     but_is : (r : Station) → (clear km p (without r.id ss) ≡ true) ↔ ClearBut km ss r p
     unfolding clear without
     but_is r = (
-      λ e x m ne. not-true _ ((every_in (λ x. not (near km p x)) _).0 e x ((in-keep (λ x. not (has_id r.id x)) ss).1 (m, ap not (ne_eqb x.id r.id ne)))),
-      λ f. (every_in (λ x. not (near km p x)) _).1 (λ x m. let k = (in-keep (λ x. not (has_id r.id x)) ss).0 m in ap not (f x k.0 (eqb-false x.id r.id (not-true _ k.1)))),
+      λ e x m ne. not-true _ ((every_in (λ x. not (near km p x)) _).0 e x ((in_keep (λ x. not (has_id r.id x)) ss).1 (m, ap not (ne_eqb x.id r.id ne)))),
+      λ f. (every_in (λ x. not (near km p x)) _).1 (λ x m. let k = (in_keep (λ x. not (has_id r.id x)) ss).0 m in ap not (f x k.0 (eqb-false x.id r.id (not-true _ k.1)))),
     )
 
   -- what is allowed is a clean move of a movable station to another channel
@@ -96,17 +96,17 @@ module _ (km : ℕ → ℕ → ℕ → ℕ) (ss : List Station) where
         where
           to : x ∈ each (moves_of km new ss c) ss → Moving x
           to h =
-              let a = (in-each (moves_of km new ss c) ss).0 h in
+              let a = (in_each (moves_of km new ss c) ss).0 h in
               let b = (in_map (λ m. row c a.0.id m) (keep (allowed km (new c) ss a.0) new_channels)).0 a.2 in
-              let d = (in-keep (allowed km (new c) ss a.0) new_channels).0 b.1 in
+              let d = (in_keep (allowed km (new c) ss a.0) new_channels).0 b.1 in
               let e = (in_span b.0 channel_count lowest).0 d.0 in
               record { r = a.0; m = b.0; move = (allowed_is (new c) a.0 b.0 a.1 e.0 (omega (arith, e.1))).0 d.1; is = b.2 }
 
           from : Moving x → x ∈ each (moves_of km new ss c) ss
           from v =
               let w = v.move in
-              let d = (in-keep (allowed km (new c) ss v.r) new_channels).1 ((in_span v.m channel_count lowest).1 (w.low, omega (arith, w.high)), (allowed_is (new c) v.r v.m w.stands w.low w.high).1 w) in
-              (in-each (moves_of km new ss c) ss).1 (v.r, w.stands, (in_map (λ m. row c v.r.id m) (keep (allowed km (new c) ss v.r) new_channels)).1 (v.m, d, v.is))
+              let d = (in_keep (allowed km (new c) ss v.r) new_channels).1 ((in_span v.m channel_count lowest).1 (w.low, omega (arith, w.high)), (allowed_is (new c) v.r v.m w.stands w.low w.high).1 w) in
+              (in_each (moves_of km new ss c) ss).1 (v.r, w.stands, (in_map (λ m. row c v.r.id m) (keep (allowed km (new c) ss v.r) new_channels)).1 (v.m, d, v.is))
 
       -- each new channel's rows carry it
       arranged-new : (x : Row) → x ∈ arranged km new ss c → x.a ≡ c
@@ -131,12 +131,12 @@ module _ (km : ℕ → ℕ → ℕ → ℕ) (ss : List Station) where
 
           to : x ∈ arrangements km new ss first last → Arrangement km ss new first last x
           to h =
-              let a = (in-each (arranged km new ss) (span first (suc last - first))).0 h in
+              let a = (in_each (arranged km new ss) (span first (suc last - first))).0 h in
               let b = (in_span a.0 (suc last - first) first).0 a.1 in
               arrangement a.0 b.0 (omega (arith, b.1)) (clear km (new a.0) ss) refl a.2
 
           channel : {y : Row} (c : ℕ) → first ≤ c → c ≤ last → y ∈ arranged km new ss c → y ∈ arrangements km new ss first last
-          channel c lo hi h = (in-each (arranged km new ss) (span first (suc last - first))).1 (c, (in_span c (suc last - first) first).1 (lo, omega arith), h)
+          channel c lo hi h = (in_each (arranged km new ss) (span first (suc last - first))).1 (c, (in_span c (suc last - first) first).1 (lo, omega arith), h)
 
           from : (y : Row) → Arrangement km ss new first last y → y ∈ arrangements km new ss first last
           from y (unmoved c lo hi f) = channel c lo hi (rw ((clear_is (new c)).1 f) (Memᴰ.head refl))

@@ -18,7 +18,7 @@ use Rattle.survey.specs.Ways.{near, on_channel, clear}
 use Rattle.survey.proofs.Studied.{clear_at, but_at, each_at}
 use Rattle.planning.specs.Scene.{Scene, scene, new_but, moved_but, allowed as allowed'}
 use Rattle.arrangements.specs.Arrange.{allowed, moves_of, arranged, arrangements}
-use Rattle.arrangements.specs.Placed.{clear as clear', moves_of as movesOf', moves as moves', arranged as arranged', arrangements as arrangements'}
+use Rattle.arrangements.specs.Placed.{clear as clear', moves_of as moves_of', moves as moves', arranged as arranged', arrangements as arrangements'}
 
 -- to nobody, of one station and others
 pub clear_cons : (km : ℕ → ℕ → ℕ → ℕ) (p : Assignment) (x : Station) (ss : List Station) → clear km p (x ∷ ss) ≡ (not (near km p x) && clear km p ss)
@@ -53,7 +53,7 @@ module _ (km : ℕ → ℕ → ℕ → ℕ) (look : Station → Bool) (s : List 
   unseen c i m l = rw l
 
   moves_at : (c : ℕ) → each (moves_of km new ss c) ss ≡ moves' t c
-  unfolding moves' moves_of movesOf' scene
+  unfolding moves' moves_of moves_of' scene
   moves_at c = each_at s n e look (moves_of km new ss c) ∙ each_cong _ _ n 0 (λ i lo hi. go i (omega arith) (look (station_at s i)) refl)
     where
       go : (i : ℕ) → i < n → (b : Bool) → look (station_at s i) ≡ b → cond b (map (λ m. row c (station_at s i).id m) (keep (allowed km (new c) ss (station_at s i)) new_channels)) [] ≡ map (λ m. row c (station_at s i).id m) (keep (allowed' t c i) new_channels)

@@ -4,7 +4,7 @@ use Rattle.ground.specs.Lists.{◌∈◌}
 use Rattle.ground.specs.Rows.{Row, row}
 use Rattle.part73.specs.Channels.{lowest, highest}
 use Rattle.spacing.specs.Pair.{Assignment}
-use Rattle.stations.specs.Lists.{movable as isMovable, onto}
+use Rattle.stations.specs.Lists.{movable as is_movable, onto}
 use Rattle.stations.specs.declared.Station.{Station}
 use Rattle.survey.specs.Ways.{near, on_channel}
 
@@ -22,7 +22,7 @@ module _ (km : ℕ → ℕ → ℕ → ℕ) (ss : List Station) where
   -- anybody, each other included
   pub record Move (new : Assignment) (r : Station) (m : ℕ) : Type 0 where
     pub stands : r ∈ ss
-    pub movable : isMovable r ≡ true
+    pub movable : is_movable r ≡ true
     pub low : lowest ≤ m
     pub high : m ≤ highest
     pub other : m ≡ r.channel → ⊥

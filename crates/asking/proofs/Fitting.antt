@@ -43,7 +43,7 @@ use Rattle.checks.specs.Check.{asked, on_one, row_of, short_rows, rows_for, chec
 use Rattle.checks.proofs.Listing.{length-flat}
 use Rattle.planning.specs.Scene.{Scene, scene, scene_of, allowed}
 use Rattle.planning.proofs.Tallies.{Tally, nobody, lone, several, tally}
-use Rattle.arrangements.specs.Arrange.{arranged as arranged', arrangements, rows_for as rowsFor', arranged_for}
+use Rattle.arrangements.specs.Arrange.{arranged as arranged', arrangements, rows_for as rows_for', arranged_for}
 use Rattle.arrangements.specs.Placed.{clear, moves_of, moves, arranged}
 use Rattle.arrangements.proofs.Movers.{Clear, clear_is, moves_of_lem}
 use Rattle.arrangements.proofs.Positions.{arranged_at}
@@ -149,26 +149,26 @@ one_channel km new ss c =
     ap (λ (n : ℕ). each (arranged' km new ss) (span c n)) e ∙ append-nil (arranged' km new ss c)
 
 -- a movable station is on one of 221 to 300
-in-band : (s : List ℕ) (t : Terms) (p : Place) → Accepted s → (i : ℕ) → i < count s → (scene_of s t p).movable i ≡ true → (lowest ≤ (scene_of s t p).channel i) × ((scene_of s t p).channel i ≤ highest)
+in_band : (s : List ℕ) (t : Terms) (p : Place) → Accepted s → (i : ℕ) → i < count s → (scene_of s t p).movable i ≡ true → (lowest ≤ (scene_of s t p).channel i) × ((scene_of s t p).channel i ≤ highest)
 unfolding scene movable
-in-band s t p e i h q =
+in_band s t p e i h q =
     let r = station_at s i in
     let a = and_was (eqb (r.flags % 2) 0) (ltb 220 r.channel) (and_was (looked t r) _ q).1 in
     let b = ltb-true 220 r.channel a.1 in
     (omega arith, (fine_at s (count s) e i h).high)
 
-few-arranged : (s : List ℕ) (t : Terms) (p : Place) (c : ℕ) → Accepted s → length (rowsFor' (sited p) c c (chosen_for t) (studied t (stations s))) ≤ 3 * (channel_count - 1)
+few-arranged : (s : List ℕ) (t : Terms) (p : Place) (c : ℕ) → Accepted s → length (rows_for' (sited p) c c (chosen_for t) (studied t (stations s))) ≤ 3 * (channel_count - 1)
 unfolding studied scene
 few-arranged s t p c e =
     let ss = keep (looked t) (stations s) in
-    omega (arith, length-flat (arrangements (chosen_for t) (sited p) ss c c), ap length (one_channel (chosen_for t) (sited p) ss c ∙ arranged_at (chosen_for t) (looked t) s e (sited p) c), few_rows (scene_of s t p) c (in-band s t p e))
+    omega (arith, length-flat (arrangements (chosen_for t) (sited p) ss c c), ap length (one_channel (chosen_for t) (sited p) ss c ∙ arranged_at (chosen_for t) (looked t) s e (sited p) c), few_rows (scene_of s t p) c (in_band s t p e))
 
 pub arrange_fits : (channel : ℕ) (t : Terms) (input vs : List ℕ) → arrange_input channel channel t input ≡ grant vs → length vs ≤ 3 * (channel_count - 1)
 unfolding arrange_input arranged_for
 arrange_fits channel t input vs e =
     let s = drop 10 input in
     let q = wanted_of channel channel t input in
-    let w = granted_way 10 input s q (rowsFor' (asked' q) channel channel) vs e in
+    let w = granted_way 10 input s q (rows_for' (asked' q) channel channel) vs e in
     omega (arith, few-arranged s t (place_asked q) channel w.0, ap length w.1)
 
 -- ---- Add, Withdraw, Move: the image of no more stations than a table may have

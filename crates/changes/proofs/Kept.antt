@@ -6,7 +6,7 @@ use Prim.Native.Nat.{ℕ, ◌+◌}
 use native.Mathlib.Omega.{arith}
 use lib.ListN.{length, drop}
 use Rattle.ground.specs.Lists.{◌∈◌}
-use Rattle.ground.proofs.Positions.{position, in-at}
+use Rattle.ground.proofs.Positions.{position, in_at}
 use Rattle.stations.specs.Image.{station_at}
 use Rattle.stations.specs.Encode.{encode}
 use Rattle.stations.specs.declared.Station.{Station}
@@ -40,5 +40,5 @@ keeps id ss rs v w over i l ne =
     let t = whole (encode rs) (length rs) (valid_image rs w).0 in
     let x = station_at (encode ss) i in
     let here : drop i ss ≡ x ∷ drop (i + 1) ss = rw k.1 at (next s i (omega (arith, l, s.counted))) in
-    let p = position rs (over x ne (in-at ss i _ here)) in
+    let p = position rs (over x ne (in_at ss i _ here)) in
     (p.0, omega (arith, p.1, t.counted), bytes_at_lem rs p.0 x p.2 p.3 ∙ sym (bytes_at_lem ss i x _ here))

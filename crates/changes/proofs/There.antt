@@ -5,7 +5,7 @@ use mathlib.Core.List.{List}
 use Prim.Native.Nat.{ℕ, ◌<◌}
 use native.Mathlib.Omega.{arith}
 use Rattle.ground.specs.Lists.{some, first}
-use Rattle.ground.proofs.Positions.{in-at}
+use Rattle.ground.proofs.Positions.{in_at}
 use Rattle.versions.proofs.Versions.{limit_small}
 use Rattle.stations.specs.Image.{station_at, stations, judged}
 use Rattle.stations.specs.Lists.{has_id, from_id, with_id}
@@ -36,4 +36,4 @@ module _ (s : List ℕ) (n : ℕ) (e : judged s ≡ Table n) where
 
       -- the record there is the one that has it
       pub with_at : {A : Type 0} (none : A) (one : Station → A) → with_id id (stations s) none one ≡ one (station_at s p)
-      with_at none one = with_one id none one (station_at s p) (stations s) (ids_ascend s n e) own_id (in-at (stations s) p _ (next (whole s n e) p within))
+      with_at none one = with_one id none one (station_at s p) (stations s) (ids_ascend s n e) own_id (in_at (stations s) p _ (next (whole s n e) p within))

@@ -9,7 +9,7 @@ use Prim.Native.Nat.{ℕ}
 use borrow.Author.Tests.{ltb-true, lt-ltb}
 use Rattle.ground.specs.Lists.{◌∈◌, keep}
 use Rattle.ground.specs.Rows.{Row, flat}
-use Rattle.ground.proofs.Order.{in-keep, in_map, Ascending, By, ascending_keep, ascending_map, strict_by, one_ascending}
+use Rattle.ground.proofs.Order.{in_keep, in_map, Ascending, By, ascending_keep, ascending_map, strict_by, one_ascending}
 use Rattle.part73.specs.Standards.{chosen}
 use Rattle.spacing.specs.Pair.{Assignment, short_by}
 use Rattle.stations.specs.Image.{stations, count, Accepted}
@@ -41,11 +41,11 @@ module _ (km : ℕ → ℕ → ℕ → ℕ) (p : Assignment) where
         to : x ∈ map (row_of km p) (keep (near km p) ss) → ShortRow km p ss x
         to m =
             let y = (in_map (row_of km p) _).0 m in
-            let k = (in-keep (near km p) ss).0 y.1 in
+            let k = (in_keep (near km p) ss).0 y.1 in
             record { station = y.0; stands = k.0; short = (near-short y.0).0 k.1; is = y.2 }
 
         from : ShortRow km p ss x → x ∈ map (row_of km p) (keep (near km p) ss)
-        from h = (in_map (row_of km p) _).1 (h.station, (in-keep (near km p) ss).1 (h.stands, (near-short h.station).1 h.short), h.is)
+        from h = (in_map (row_of km p) _).1 (h.station, (in_keep (near km p) ss).1 (h.stands, (near-short h.station).1 h.short), h.is)
 
     -- no short station means acceptable
     pub acceptable : (short_rows km p ss ≡ []) ↔ ((r : Station) → r ∈ ss → Short km p r → ⊥)

@@ -8,6 +8,9 @@ use native.Mathlib.Omega.{arith}
 use native.Mathlib.Decide.{dec_lt}
 use lib.Dec.{lit≤}
 use lib.IntN.{ℤ, pos, negsuc, nat_abs, ◌-ℤ◌}
+use mir.Syntax.{w32}
+use mir.Val.{SFits, to_z, of_z}
+use mir.Facts.{to_z-of_z}
 use borrow.Author.Tests.{lt-ltb, le-ltb}
 use Rattle.ground.proofs.Signed.{abs_sub, abs_sub_comm, sub_pos}
 use Rattle.distance.specs.Distance.{pick, short_way, lon_gap, EW, S}
@@ -19,6 +22,18 @@ plain_way d h = ap (λ (t : Bool). pick t (1296000 - d) d) (le-ltb 648000 d h)
 
 pub other_way : (d : ℕ) → 648000 < d → short_way d ≡ 1296000 - d
 other_way d h = ap (λ (t : Bool). pick t (1296000 - d) d) (lt-ltb 648000 d h)
+
+-- the same of a difference of two longitudes that were read from their bits
+module _ {u v : ℤ} {d : ℕ} (e : d ≡ nat_abs (to_z w32 (of_z w32 u) -ℤ to_z w32 (of_z w32 v))) (f : SFits w32 u) (g : SFits w32 v) where
+  read_way : short_way d ≡ lon_gap u v
+  unfolding lon_gap
+  read_way = ap short_way (simp (to_z-of_z f, to_z-of_z g) at e)
+
+  pub over_half : 648000 < d → 1296000 - d ≡ lon_gap u v
+  over_half h = omega (arith, other_way d h, read_way)
+
+  pub within_half : d ≤ 648000 → d ≡ lon_gap u v
+  within_half h = omega (arith, plain_way d h, read_way)
 
 pub lon_gap_sym : (lon1 lon2 : ℤ) → lon_gap lon1 lon2 ≡ lon_gap lon2 lon1
 unfolding lon_gap

@@ -1,9 +1,9 @@
 -- The ranges of NS, EW and S, that S does not go by the order of the sites, and that it is 0 at one site. Assumes nothing.
 use mathlib.Core.Path.{◌≡◌}
-use Prim.Native.Nat.{ℕ, ◌+◌, ◌*◌, ◌/◌, ◌≤◌}
+use Prim.Native.Nat.{ℕ, ◌*◌, ◌/◌, ◌≤◌}
 use native.Mathlib.Nat.{le_trans, mul-le-mul, mul-le-mul_left}
 use native.Mathlib.Omega.{arith}
-use lib.IntN.{ℤ, pos, nat_abs, ◌+ℤ◌, ◌-ℤ◌, ◌*ℤ◌, +ℤ_comm, +ℤ_invr}
+use lib.IntN.{ℤ, pos, nat_abs, ◌-ℤ◌, ◌*ℤ◌, +ℤ_comm, +ℤ_invr}
 use Rattle.distance.specs.Distance.{◌÷◌, Placed, h_of, lat_gap, lon_gap, P, Q, NS, EW, S}
 use Rattle.ground.proofs.Signed.{abs_add, abs_sub, abs_mul, abs_quot, abs_sub_comm}
 use Rattle.distance.proofs.Cosines.{P-high, Q-high, P-low}

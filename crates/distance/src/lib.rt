@@ -105,6 +105,7 @@ pub fn gap_size(a: i32, b: i32) -> u64
 }
 
 // The difference of two longitudes, the short way round.
+#[tactic(auto, using(crate::proofs::Meridian::over_half, crate::proofs::Meridian::within_half))]
 pub fn lon_gap(lon1: i32, lon2: i32) -> u64
     requires { (nat_abs lon1 ≤ 648000) × (nat_abs lon2 ≤ 648000) }
     ensures { result ≡ lon_gap lon1 lon2 }

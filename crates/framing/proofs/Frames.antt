@@ -1,16 +1,16 @@
 -- What a span holds, by the bits of the coordinates, over the 180th meridian too; and why nobody outside of a frame is short.
 -- Assumes nothing.
-use Rattle.std.proofs.Common.{◌≡◌, ℕ, zero, suc, ◌+◌, ◌-◌, ◌*◌, ◌%◌, ◌<◌, ◌≤◌, Bool, true, false, ◌⊎◌, ℤ, pos, negsuc, ◌-ℤ◌, nat_abs, sym, ap, ◌∙◌, inl, inr, ⊎_elim, true≢false, mod-lt, arith, lit<, lit≤, w32, SFits, of_z, ltb-false, ltb-true, le-ltb}
+use Rattle.std.proofs.Common.{◌≡◌, ℕ, zero, suc, ◌+◌, ◌-◌, ◌*◌, ◌%◌, ◌<◌, ◌≤◌, true, false, ◌⊎◌, ℤ, pos, negsuc, ◌-ℤ◌, nat_abs, sym, ap, ◌∙◌, inl, inr, ⊎_elim, true≢false, mod-lt, arith, lit<, lit≤, w32, SFits, of_z, ltb-false, ltb-true, le-ltb}
 use native.Mathlib.Nat.{mod-add-mod}
 use native.Mathlib.Decide.{dec_lt}
 use Rattle.ground.proofs.Signed.{fit32, sub_size}
 use Rattle.distance.specs.Distance.{lat_gap, lon_gap, Placed}
 use Rattle.distance.specs.Meridian.{SmallerWay}
 use Rattle.distance.proofs.Meridian.{smaller_way}
-use Rattle.spacing.specs.Reaching.{InRange, Beyond, Seconds, Fair, Surrounds}
+use Rattle.spacing.specs.Reaching.{Seconds, Fair, Surrounds}
 use Rattle.spacing.specs.declared.Around.{Around}
 use Rattle.spacing.specs.declared.Place.{Place}
-use Rattle.framing.specs.Frames.{less, past, Centred, Holds, Unframed, Encloses}
+use Rattle.framing.specs.Frames.{less, past, Centred, Holds, Encloses}
 use Rattle.framing.specs.declared.Span.{Span}
 use Rattle.framing.specs.declared.Frame.{Frame}
 

@@ -16,7 +16,7 @@ use Rattle.stations.specs.Image.{station_at, stations, count}
 use Rattle.stations.specs.Lists.{onto, insert, without, rechannel}
 use Rattle.stations.specs.Encode.{record_of, header_of, version_of, encode}
 use Rattle.stations.specs.declared.Station.{Station}
-use Rattle.stations.proofs.Changed.{insert-cut, without_cut, rechannel_cut}
+use Rattle.stations.proofs.Changed.{insert_cut, without_cut, rechannel_cut}
 use Rattle.stations.proofs.Back.{length-encode}
 use Rattle.stations.proofs.Table.{Whole, whole, length-stations, next}
 use Rattle.stations.proofs.Places.{ids_ascend, place-le, first_own}
@@ -100,8 +100,8 @@ module _ {s : List ℕ} {p : ℕ} {r : Station} (a : Adds s p r) where
       let place : p ≤ count s = omega (arith, a.place, place-le s (count s) a.accepted r.id) in
       record { accepted = a.accepted; front = place; back = place; many = omega arith; few = omega (arith, a.room) }
 
-  pub insert-is : insert r (stations s) ≡ take p (stations s) ++ (r ∷ drop p (stations s))
-  insert-is = rw a.place (insert-cut r (stations s) a.new)
+  pub insert_is : insert r (stations s) ≡ take p (stations s) ++ (r ∷ drop p (stations s))
+  insert_is = rw a.place (insert_cut r (stations s) a.new)
 
 module _ {s : List ℕ} {p : ℕ} (a : Withdraws s p) where
   pub without-plan : {n : ℕ} → n ≡ count s → Plan s p (p + 1) 0 (n - 1)

@@ -25,7 +25,7 @@ module _ {A : Type 0} where
   drop-build (suc n) f zero h = refl
   drop-build (suc n) f (suc i) h = drop-build n (λ i. f (suc i)) i (le_of_suc-le-suc h)
 
-pub get_d_map : {A B : Type 0} (f : A → B) (l : List A) (i : ℕ) (d : A) (e : B) → i < length l → get_or (map f l) i e ≡ f (get_or l i d)
-get_d_map f [] i d e h = absurd (not-suc-le-zero h)
-get_d_map f (x ∷ l) zero d e h = refl
-get_d_map f (x ∷ l) (suc i) d e h = get_d_map f l i d e (le_of_suc-le-suc h)
+pub get_or-map : {A B : Type 0} (f : A → B) (l : List A) (i : ℕ) (d : A) (e : B) → i < length l → get_or (map f l) i e ≡ f (get_or l i d)
+get_or-map f [] i d e h = absurd (not-suc-le-zero h)
+get_or-map f (x ∷ l) zero d e h = refl
+get_or-map f (x ∷ l) (suc i) d e h = get_or-map f l i d e (le_of_suc-le-suc h)

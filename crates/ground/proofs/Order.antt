@@ -13,10 +13,10 @@ use Rattle.ground.specs.Lists.{◌∈◌, span, keep, each}
 -- ---- who stands in a list
 
 module _ {A : Type 0} where
-  pub in-keep : {x : A} (p : A → Bool) (l : List A) → (x ∈ keep p l) ↔ ((x ∈ l) × (p x ≡ true))
+  pub in_keep : {x : A} (p : A → Bool) (l : List A) → (x ∈ keep p l) ↔ ((x ∈ l) × (p x ≡ true))
   unfolding keep
-  in-keep p [] = (λ m. absurd (Memᴰ.not-nil m), λ m. m.0)
-  in-keep {x} p (y ∷ l) = go (p y) refl (in-keep p l)
+  in_keep p [] = (λ m. absurd (Memᴰ.not-nil m), λ m. m.0)
+  in_keep {x} p (y ∷ l) = go (p y) refl (in_keep p l)
     where
       go : (b : Bool) → p y ≡ b → (x ∈ keep p l) ↔ ((x ∈ l) × (p x ≡ true)) → (x ∈ cond b (y ∷ keep p l) (keep p l)) ↔ ((x ∈ (y ∷ l)) × (p x ≡ true))
       go true e ih = (
@@ -37,11 +37,11 @@ module _ {A B : Type 0} where
         λ m. ⊎_elim (λ (q : m.0 ≡ z). Memᴰ.head (rw q at m.2)) (λ (n : m.0 ∈ l). Memᴰ.tail (ih.1 (m.0, n, m.2))) (Memᴰ.cases_cons m.1),
       )
 
-  pub in-each : {y : B} (f : A → List B) (l : List A) → (y ∈ each f l) ↔ ((x : A) × (x ∈ l) × (y ∈ f x))
+  pub in_each : {y : B} (f : A → List B) (l : List A) → (y ∈ each f l) ↔ ((x : A) × (x ∈ l) × (y ∈ f x))
   unfolding each
-  in-each f [] = (λ m. absurd (Memᴰ.not-nil m), λ m. absurd (Memᴰ.not-nil m.1))
-  in-each {y} f (z ∷ l) =
-      let ih = in-each {y = y} f l in (
+  in_each f [] = (λ m. absurd (Memᴰ.not-nil m), λ m. absurd (Memᴰ.not-nil m.1))
+  in_each {y} f (z ∷ l) =
+      let ih = in_each {y = y} f l in (
         λ m. ⊎_elim (λ (n : y ∈ f z). (z, Memᴰ.head refl, n)) (λ (n : y ∈ each f l). ((ih.0 n).0, Memᴰ.tail (ih.0 n).1, (ih.0 n).2)) (Memᴰ.append_cases (f z) m),
         λ m. ⊎_elim (λ (q : m.0 ≡ z). Memᴰ.append_left (each f l) (rw q at m.2)) (λ (n : m.0 ∈ l). Memᴰ.append_right (f z) (ih.1 (m.0, n, m.2))) (Memᴰ.cases_cons m.1),
       )
@@ -111,7 +111,7 @@ module _ {A : Type 0} where
     ascending_keep p (x ∷ l) a = go (p x) (ascending_keep p l (rest_of a))
       where
         go : (b : Bool) → Ascending before (keep p l) → Ascending before (cond b (x ∷ keep p l) (keep p l))
-        go true k = ahead (λ y m. ahead_of a y ((in-keep p l).0 m).0) k
+        go true k = ahead (λ y m. ahead_of a y ((in_keep p l).0 m).0) k
         go false k = k
 
     -- two lists of which the second stands after the first
@@ -139,7 +139,7 @@ module _ {A B : Type 0} {before : A → A → Type 0} {after : B → B → Type 
   ascending_each f (x ∷ l) a p h =
       ascending_append (f x) (each f l) (p x (Memᴰ.head refl))
       (ascending_each f l (rest_of a) (λ y m. p y (Memᴰ.tail m)) (λ u v i j. h u v (Memᴰ.tail i) (Memᴰ.tail j)))
-      (λ u v i j. let n = (in-each f l).0 j in h x n.0 (Memᴰ.head refl) (Memᴰ.tail n.1) (ahead_of a n.0 n.1) u v i n.2)
+      (λ u v i j. let n = (in_each f l).0 j in h x n.0 (Memᴰ.head refl) (Memᴰ.tail n.1) (ahead_of a n.0 n.1) u v i n.2)
 
 pub ascending_span : (n a : ℕ) → Ascending ◌<◌ (span a n)
 unfolding span

@@ -21,18 +21,18 @@ module _ {A : Type 0} where
       ⊎_elim (λ (q : x ≡ y). (0, omega arith, l, rw q)) (λ (n : x ∈ l). let p = position l n in let h = p.1 in (suc p.0, omega arith, p.2, p.3)) (Memᴰ.cases_cons m)
 
   -- and who has a position is one of the list
-  pub in-at : {x : A} (l : List A) (i : ℕ) (rest : List A) → drop i l ≡ x ∷ rest → x ∈ l
-  in-at [] zero rest e = let z : ◌≡◌ {A = ℕ} 0 1 = cc in absurd (omega arith)
-  in-at [] (suc i) rest e = let z : ◌≡◌ {A = ℕ} 0 1 = cc in absurd (omega arith)
-  in-at {x} (y ∷ l) zero rest e = let q : x ≡ y = cc in Memᴰ.head q
-  in-at (y ∷ l) (suc i) rest e = Memᴰ.tail (in-at l i rest e)
+  pub in_at : {x : A} (l : List A) (i : ℕ) (rest : List A) → drop i l ≡ x ∷ rest → x ∈ l
+  in_at [] zero rest e = let z : ◌≡◌ {A = ℕ} 0 1 = cc in absurd (omega arith)
+  in_at [] (suc i) rest e = let z : ◌≡◌ {A = ℕ} 0 1 = cc in absurd (omega arith)
+  in_at {x} (y ∷ l) zero rest e = let q : x ≡ y = cc in Memᴰ.head q
+  in_at (y ∷ l) (suc i) rest e = Memᴰ.tail (in_at l i rest e)
 
   -- one of a function's first n values
-  pub in-build : {x : A} (n : ℕ) (f : ℕ → A) → x ∈ build n f → (i : ℕ) × (i < n) × (x ≡ f i)
+  pub in_build : {x : A} (n : ℕ) (f : ℕ → A) → x ∈ build n f → (i : ℕ) × (i < n) × (x ≡ f i)
   unfolding build
-  in-build zero f m = absurd (Memᴰ.not-nil m)
-  in-build {x} (suc n) f m =
-      ⊎_elim (λ (q : x ≡ f zero). (0, omega arith, q)) (λ (o : x ∈ build n (λ i. f (suc i))). let p = in-build n (λ i. f (suc i)) o in let h = p.1 in (suc p.0, omega arith, p.2)) (Memᴰ.cases_cons m)
+  in_build zero f m = absurd (Memᴰ.not-nil m)
+  in_build {x} (suc n) f m =
+      ⊎_elim (λ (q : x ≡ f zero). (0, omega arith, q)) (λ (o : x ∈ build n (λ i. f (suc i))). let p = in_build n (λ i. f (suc i)) o in let h = p.1 in (suc p.0, omega arith, p.2)) (Memᴰ.cases_cons m)
 
   -- one passes a test exactly where not each fails it
   some_every : (p : A → Bool) (l : List A) → some p l ≡ not (every (λ x. not (p x)) l)
@@ -56,5 +56,5 @@ module _ {A : Type 0} where
   ascending_at [] zero j a b o h e f = let z : ◌≡◌ {A = ℕ} 0 1 = cc in absurd (omega arith)
   ascending_at [] (suc i) j a b o h e f = let z : ◌≡◌ {A = ℕ} 0 1 = cc in absurd (omega arith)
   ascending_at (z ∷ l) i zero a b o h e f = absurd (omega arith)
-  ascending_at (z ∷ l) zero (suc j) {x} {y} a b o h e f = let q : z ≡ x = cc in rw q at (ahead_of o y (in-at l j b f))
+  ascending_at (z ∷ l) zero (suc j) {x} {y} a b o h e f = let q : z ≡ x = cc in rw q at (ahead_of o y (in_at l j b f))
   ascending_at (z ∷ l) (suc i) (suc j) a b o h e f = ascending_at l i j a b (rest_of o) (omega arith) e f

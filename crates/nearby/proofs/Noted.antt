@@ -9,7 +9,7 @@ use native.Mathlib.Omega.{arith}
 use lib.ListN.{length, get_or, take, length-take}
 use lib.Seq.{get_or-take}
 use Rattle.ground.specs.Lists.{◌∈◌, span, keep}
-use Rattle.ground.proofs.Order.{in-keep, in_span}
+use Rattle.ground.proofs.Order.{in_keep, in_span}
 use Rattle.ground.proofs.Keeps.{map-map}
 use Rattle.spacing.specs.Pair.{Assignment}
 use Rattle.spacing.specs.Reaching.{InRange}
@@ -44,7 +44,7 @@ module _ (s : List ℕ) (e : Accepted s) (t : Terms) (p : Assignment) {hits : Li
   position : (i : ℕ) → i < k → get_or hits i 0 < count s
   unfolding short_positions
   position i h =
-      let m = ((in-keep _ (span 0 (count s))).0 (at_in (short_positions (chosen_for t) (looked t) s p) i (omega (arith, w.many)))).0 in
+      let m = ((in_keep _ (span 0 (count s))).0 (at_in (short_positions (chosen_for t) (looked t) s p) i (omega (arith, w.many)))).0 in
       let q = sym (get_or-take k hits i 0 h) ∙ ap (λ (l : List ℕ). get_or l i 0) w.holds in
       omega (arith, q, ((in_span _ (count s) 0).0 m).1)
 

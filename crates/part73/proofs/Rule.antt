@@ -7,7 +7,7 @@ use Prim.Native.Nat.{ℕ, ◌+◌, ◌-◌, ◌*◌, ◌/◌, ◌≤◌, ◌<◌
 use lib.Dec.{T, leb, ltb, eqb, ltb→lt, eqb→eq, le→leb, lit<}
 use lib.ListN.{length, get_or}
 use Rattle.ground.specs.Lists.{build}
-use Rattle.ground.proofs.Built.{get_or-build, get_d_map}
+use Rattle.ground.proofs.Built.{get_or-build, get_or-map}
 use Rattle.ground.proofs.Ranges.{all3, at3, left, right}
 use Rattle.part73.specs.TableA.{Relation, ◌to◌∶◌, relations}
 use Rattle.part73.specs.Reading.{row_for, rows_of, RowOf}
@@ -52,7 +52,7 @@ rule lo hi l o h =
     record {
       within = within;
       at = λ km table c k.
-          rw (get_d_map (row_for km) relations (row_of lo hi) (0 to 0 ∶ []) [] (rw long within), row_for_lem km (relation_at (row_of lo hi)), get_or-build 4 (km (one (relation_at (row_of lo hi))) (other (relation_at (row_of lo hi)))) c 0 k, first, second);
+          rw (get_or-map (row_for km) relations (row_of lo hi) (0 to 0 ∶ []) [] (rw long within), row_for_lem km (relation_at (row_of lo hi)), get_or-build 4 (km (one (relation_at (row_of lo hi))) (other (relation_at (row_of lo hi)))) c 0 k, first, second);
     }
   where
     tests : T (ltb (row_of lo hi) 36 && (eqb (one (relation_at (row_of lo hi))) lo && eqb (other (relation_at (row_of lo hi))) hi))

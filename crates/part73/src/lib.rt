@@ -87,6 +87,7 @@ pub fn row_of(a: usize, b: usize) -> usize
     if a <= b { ordered(a, b) } else { ordered(b, a) }
 }
 
+#[tactic(auto, unfolding(crate::specs::Classes::is_class))]
 pub fn is_class(class: u32) -> bool
     ensures { result ≡ is_class class }
 {
@@ -132,6 +133,7 @@ fn in_zone_two(class: u32) -> bool
 }
 
 // The absolute difference of two channels.
+#[tactic(auto, unfolding(crate::specs::Columns::gap))]
 pub fn gap_of(x: usize, y: usize) -> usize
     ensures { result ≡ gap x y }
 {
@@ -139,6 +141,7 @@ pub fn gap_of(x: usize, y: usize) -> usize
 }
 
 // The column that a channel difference reads; 4 where there is no requirement.
+#[tactic(auto, using(ground::proofs::Guards::guards), unfolding(crate::specs::Columns::column))]
 pub fn column_of(d: usize) -> usize
     ensures { result ≡ column d }
 {

@@ -4,7 +4,7 @@ use Rattle.ground.specs.Lists.{span, every}
 use Rattle.spacing.specs.Pair.{Assignment, sited, short_by}
 use Rattle.spacing.specs.declared.Place.{Place}
 use Rattle.stations.specs.Image.{station_at, count}
-use Rattle.stations.specs.Lists.{movable as isMovable}
+use Rattle.stations.specs.Lists.{movable as is_movable}
 use Rattle.stations.specs.declared.Station.{Station}
 use Rattle.survey.specs.Ways.{on_channel, looked, chosen_for}
 use Rattle.survey.specs.Walking.{blocks}
@@ -30,7 +30,7 @@ scene km look s new =
       size = count s;
       id = λ j. (station_at s j).id;
       channel = λ j. (station_at s j).channel;
-      movable = λ j. look (station_at s j) && isMovable (station_at s j);
+      movable = λ j. look (station_at s j) && is_movable (station_at s j);
       new = λ c j. blocks km look s (new c) j;
       moved = λ i m j. blocks km look s (on_channel m (station_at s i)) j;
       meets = λ i m c. short_by km (new c) (on_channel m (station_at s i));

@@ -13,7 +13,7 @@ use lib.Seq.{drop-cons, get_or-take, length-take-le}
 use borrow.Author.Tests.{ltb-true, ltb-false, lt-ltb}
 use Rattle.ground.specs.Guard.{given}
 use Rattle.ground.specs.Lists.{◌∈◌, keep}
-use Rattle.ground.proofs.Order.{in-keep, ahead, ahead_of, rest_of, ascending_keep}
+use Rattle.ground.proofs.Order.{in_keep, ahead, ahead_of, rest_of, ascending_keep}
 use Rattle.spacing.specs.Pair.{Assignment}
 use Rattle.stations.specs.declared.Station.{Station}
 use Rattle.stations.proofs.Ids.{Ascends}
@@ -85,7 +85,7 @@ module _ (km : ℕ → ℕ → ℕ → ℕ) (p : Assignment) where
       go [] e u = inl (e, rw e)
       go (x ∷ xs) e u =
           let k = kept_one x xs u in
-          let s = (near-short km p x).0 ((in-keep {x = x} (near km p) ss).0 (rw e (Memᴰ.head {x = x} refl))).1 in
+          let s = (near-short km p x).0 ((in_keep {x = x} (near km p) ss).0 (rw e (Memᴰ.head {x = x} refl))).1 in
           let l : ltb (shortfall_of nobody) (shortfall km p x) ≡ true = lt-ltb 0 (shortfall km p x) (omega (arith, s)) in
           inr (k.who, leads_named km p ss k.who (rw e k.stands) (rw e k.leads), rw e (ap (λ (n : Neighbour). kept n (map told xs)) (worse-later nobody (told x) l) ∙ k.is))
 

@@ -7,8 +7,8 @@ use mathlib.Core.List.{List, [], ◌∷◌}
 use Prim.Native.Nat.{ℕ, ◌<◌}
 use native.Mathlib.Omega.{arith}
 use Rattle.ground.specs.Lists.{◌∈◌}
-use Rattle.ground.specs.Rows.{Row, row, flat}
-use Rattle.ground.proofs.Positions.{in-at}
+use Rattle.ground.specs.Rows.{Row, flat}
+use Rattle.ground.proofs.Positions.{in_at}
 use Rattle.refusals.specs.declared.Refusal.{Refusal}
 use Rattle.part73.specs.Separations.{Separations}
 use Rattle.part73.specs.Standards.{chosen}
@@ -127,7 +127,7 @@ module _ (s : List ℕ) (p : Proposal) where
       let i = position_in s n.id in
       let at = stands_at s n.id stands in
       let there : station_at s i ≡ b.who =
-      one_id n.id (station_at s i) b.who (stations s) (ids_ascend s (count s) e) at.1 (ap (λ (x : Neighbour). x.id) (sym b.is)) (in-at (stations s) i _ (next (whole s (count s) e) i at.0)) (stands-there s p b.named.stands) in
+      one_id n.id (station_at s i) b.who (stations s) (ids_ascend s (count s) e) at.1 (ap (λ (x : Neighbour). x.id) (sym b.is)) (in_at (stations s) i _ (next (whole s (count s) e) i at.0)) (stands-there s p b.named.stands) in
       record {
         who = b.who;
         named = b.named;

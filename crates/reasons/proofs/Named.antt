@@ -10,7 +10,7 @@ use lib.Dec.{ltb, leb, eqb}
 use borrow.Author.Tests.{ltb-true, ltb-false, eqb-true, eq-eqb, leb-true, le-leb}
 use Rattle.ground.specs.Lists.{◌∈◌, keep, every}
 use Rattle.ground.proofs.Guards.{and_was, and_both}
-use Rattle.ground.proofs.Order.{in-keep, none, ahead, ascending_keep, strict_by, one_ascending}
+use Rattle.ground.proofs.Order.{in_keep, none, ahead, ascending_keep, strict_by, one_ascending}
 use Rattle.ground.proofs.Keeps.{every_in}
 use Rattle.spacing.specs.Pair.{Assignment}
 use Rattle.stations.specs.declared.Station.{Station}
@@ -50,29 +50,29 @@ module _ (km : ℕ → ℕ → ℕ → ℕ) (p : Assignment) where
 
   module _ (ss : List Station) where
     -- the stations in the way
-    in-way : (x : Station) → (x ∈ keep (near km p) ss) ↔ ((x ∈ ss) × Short km p x)
-    in-way x =
-        let k = in-keep {x = x} (near km p) ss in
+    in_way : (x : Station) → (x ∈ keep (near km p) ss) ↔ ((x ∈ ss) × Short km p x)
+    in_way x =
+        let k = in_keep {x = x} (near km p) ss in
         (λ m. ((k.0 m).0, (near-short km p x).0 (k.0 m).1), λ m. k.1 (m.0, (near-short km p x).1 m.1))
 
     -- one of these that comes before all of them is named
     pub leads_named : (r : Station) → r ∈ keep (near km p) ss → ((x : Station) → x ∈ keep (near km p) ss → Leads r x) → Named km p ss r
     leads_named r m h =
-        let w = (in-way r).0 m in
+        let w = (in_way r).0 m in
         record {
           stands = w.0;
           short = w.1;
-          largest = λ x i s. (h x ((in-way x).1 (i, s))).most;
-          lowest = λ x i s e. (h x ((in-way x).1 (i, s))).first e;
+          largest = λ x i s. (h x ((in_way x).1 (i, s))).most;
+          lowest = λ x i s e. (h x ((in_way x).1 (i, s))).first e;
         }
 
     -- the definition names exactly those
     pub named_is : (r : Station) → (r ∈ worst km p ss) ↔ Named km p ss r
     unfolding worst
     named_is r =
-        let k = in-keep {x = r} (λ (y : Station). every (yields km p y) (keep (near km p) ss)) (keep (near km p) ss) in (
+        let k = in_keep {x = r} (λ (y : Station). every (yields km p y) (keep (near km p) ss)) (keep (near km p) ss) in (
           λ m. let w = k.0 m in leads_named r w.0 (λ x n. (yields_is r x).0 ((every_in (yields km p r) (keep (near km p) ss)).0 w.1 x n)),
-          λ n. k.1 ((in-way r).1 (n.stands, n.short), (every_in (yields km p r) (keep (near km p) ss)).1 (λ x m. let w = (in-way x).0 m in (yields_is r x).1 (record { most = n.largest x w.0 w.1; first = n.lowest x w.0 w.1 }))),
+          λ n. k.1 ((in_way r).1 (n.stands, n.short), (every_in (yields km p r) (keep (near km p) ss)).1 (λ x m. let w = (in_way x).0 m in (yields_is r x).1 (record { most = n.largest x w.0 w.1; first = n.lowest x w.0 w.1 }))),
         )
 
     module _ (ids : Ascends ss) where

@@ -8,7 +8,7 @@ use native.Mathlib.Omega.{arith}
 use lib.ListN.{get_or}
 use borrow.Author.Tests.{eq-eqb}
 use Rattle.ground.specs.Lists.{◌∈◌, keep, each}
-use Rattle.ground.proofs.Order.{in-keep}
+use Rattle.ground.proofs.Order.{in_keep}
 use Rattle.ground.proofs.Positions.{position}
 use Rattle.ground.proofs.Firsts.{some_at}
 use Rattle.part73.specs.Standards.{chosen}
@@ -114,7 +114,7 @@ module _ (s : List ℕ) (p : Proposal) where
   -- it stands in the table, and so does its id
   pub stands-there : {r : Station} → r ∈ studied_for s p → r ∈ stations s
   unfolding studied
-  stands-there {r} m = ((in-keep {x = r} (looked (terms_asked (on_one p))) (stations s)).0 m).0
+  stands-there {r} m = ((in_keep {x = r} (looked (terms_asked (on_one p))) (stations s)).0 m).0
 
   pub names : (w : Why) → outcome_of w ≡ reasoned_for s p → Names s w
   names Clear e = tt

@@ -59,6 +59,7 @@ fn agree(table: &[u8], own: usize, other: usize, r: Subject) -> bool
 }
 
 // A number that records which agree have in common.
+#[tactic(auto, unfolding(crate::specs::Records::number))]
 fn number_of(r: Subject) -> u64
     ensures { result ≡ number r }
 {
@@ -68,6 +69,7 @@ fn number_of(r: Subject) -> u64
 }
 
 // Where the way of a number begins.
+#[tactic(auto, unfolding(crate::specs::Slots::begin))]
 fn beginning(number: u64) -> usize
     ensures { result ≡ begin number }
 {
@@ -75,6 +77,7 @@ fn beginning(number: u64) -> usize
 }
 
 // Where a way goes on from a position.
+#[tactic(auto, using(versions::proofs::Versions::limit_small), unfolding(crate::specs::Slots::onward))]
 fn next_slot(other: usize, left: u64) -> usize
     requires { other < 2 * limit }
     ensures { result ≡ onward other left }

@@ -27,8 +27,8 @@ row_filled squares class separations scale w =
 
 -- what the table of squares and the co-channel separations of a class say of its limits
 module _ {km : ℕ → ℕ → ℕ → ℕ} (p : Place) (known : p.class < 8) {separations : List ℕ} (w : CoChannel km p.class separations) where
-  pub in-km : Separations km → InKm separations
-  in-km table =
+  pub in_km : Separations km → InKm separations
+  in_km table =
       record {
         some = λ b h. rw (w.at b h) (table.above p.class b 0 known h (lit< tt));
         most = λ b h. rw (w.at b h) (table.most p.class b 0 known h (lit< tt));

@@ -60,7 +60,7 @@ pub record InKm (separations : List ℕ) : Type 0 where
 
 -- what such a place asks
 pub record SecondsAsked (separations : List ℕ) (scale k : ℕ) : Type 0 where
-  pub in-km : InKm separations
+  pub in_km : InKm separations
   pub some : 0 < scale
   pub low : 32 ≤ k
   pub high : k < 48

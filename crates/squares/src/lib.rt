@@ -20,6 +20,7 @@ pub fn by_table_a() -> Squares
 }
 
 // The limit of two classes at a column; 0 where there is none.
+#[tactic(auto, using(crate::proofs::Rule::no_class, crate::proofs::Rule::no_other, crate::proofs::Rule::past_columns))]
 pub fn limit_for(a: u32, b: u32, column: u32) -> u64
     ensures { result ≡ limit_for table_a a b column }
 {

@@ -18,6 +18,7 @@ pub const BY_TABLE_A: u32 = 1;
 pub const BY_LESSER: u32 = 2;
 
 // Whether a number is a standard.
+#[tactic(auto, unfolding(part73::specs::Standards::is_standard))]
 pub fn is_standard(standard: u32) -> bool
     ensures { result ≡ is_standard standard }
 {

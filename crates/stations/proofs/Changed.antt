@@ -18,7 +18,7 @@ use Rattle.ground.proofs.Guards.{or_was}
 use Rattle.ground.proofs.Cases.{either}
 use Rattle.ground.proofs.Firsts.{some_first}
 use Rattle.ground.proofs.Keeps.{length-keep}
-use Rattle.ground.proofs.Order.{ahead, none, ahead_of, rest_of, in-keep, in_map, ascending_map}
+use Rattle.ground.proofs.Order.{ahead, none, ahead_of, rest_of, in_keep, in_map, ascending_map}
 use Rattle.stations.specs.Lists.{has_id, from_id, insert, without, onto, onto_if, rechannel}
 use Rattle.stations.specs.declared.Station.{Station}
 use Rattle.stations.proofs.Ids.{Ascends, absent_after}
@@ -26,13 +26,13 @@ use Rattle.stations.proofs.Ids.{Ascends, absent_after}
 -- ---- set in
 
 module _ (r : Station) where
-  pub insert-cut : (ss : List Station) → some (has_id r.id) ss ≡ false
+  pub insert_cut : (ss : List Station) → some (has_id r.id) ss ≡ false
       → insert r ss ≡ take (first (from_id r.id) ss) ss ++ (r ∷ drop (first (from_id r.id) ss) ss)
   unfolding insert given first some
-  insert-cut [] e = refl
-  insert-cut (x ∷ xs) e =
+  insert_cut [] e = refl
+  insert_cut (x ∷ xs) e =
       let w = or_was (eqb x.id r.id) (some (has_id r.id) xs) e in
-      go (dec_lt r.id x.id) (eqb-false x.id r.id w.0) (insert-cut xs w.1)
+      go (dec_lt r.id x.id) (eqb-false x.id r.id w.0) (insert_cut xs w.1)
     where
       go : Dec (r.id < x.id) → (x.id ≡ r.id → ⊥) → insert r xs ≡ take (first (from_id r.id) xs) xs ++ (r ∷ drop (first (from_id r.id) xs) xs)
           → cond (ltb r.id x.id) (r ∷ x ∷ xs) (x ∷ insert r xs) ≡ take (cond (leb r.id x.id) 0 (suc (first (from_id r.id) xs))) (x ∷ xs) ++ (r ∷ drop (cond (leb r.id x.id) 0 (suc (first (from_id r.id) xs))) (x ∷ xs))
@@ -46,17 +46,17 @@ module _ (r : Station) where
       let more = length_insert xs in
       either (λ (l : List Station). length l ≡ suc (length xs) + 1) (ltb r.id x.id) (r ∷ x ∷ xs) (x ∷ insert r xs) (λ _. omega arith) (λ _. omega arith)
 
-  in-front : {x : Station} {l : List Station} → (x ≡ r) ⊎ (x ∈ l) → x ∈ (r ∷ l)
-  in-front (inl q) = Memᴰ.head q
-  in-front (inr m) = Memᴰ.tail m
+  in_front : {x : Station} {l : List Station} → (x ≡ r) ⊎ (x ∈ l) → x ∈ (r ∷ l)
+  in_front (inl q) = Memᴰ.head q
+  in_front (inr m) = Memᴰ.tail m
 
   pub in_insert : {x : Station} (ss : List Station) → (x ∈ insert r ss) ↔ ((x ≡ r) ⊎ (x ∈ ss))
   unfolding insert
-  in_insert [] = (Memᴰ.cases_cons, in-front)
+  in_insert [] = (Memᴰ.cases_cons, in_front)
   in_insert {x} (y ∷ ys) =
       let more = in_insert {x = x} ys in
       either (λ (l : List Station). (x ∈ l) ↔ ((x ≡ r) ⊎ (x ∈ (y ∷ ys)))) (ltb r.id y.id) (r ∷ y ∷ ys) (y ∷ insert r ys)
-      (λ _. (Memᴰ.cases_cons, in-front))
+      (λ _. (Memᴰ.cases_cons, in_front))
       (λ _. (
         λ m. ⊎_elim (λ (q : x ≡ y). inr (Memᴰ.head q)) (λ (n : x ∈ insert r ys). ⊎_elim (λ (q : x ≡ r). inl q) (λ (o : x ∈ ys). inr (Memᴰ.tail o)) (more.0 n)) (Memᴰ.cases_cons m),
         λ o. ⊎_elim (λ (q : x ≡ r). Memᴰ.tail (more.1 (inl q)))
@@ -108,7 +108,7 @@ module _ (id : ℕ) where
   pub in_without : {x : Station} (ss : List Station) → (x ∈ without id ss) ↔ ((x ∈ ss) × (x.id ≡ id → ⊥))
   unfolding without
   in_without {x} ss =
-      let k = in-keep {x = x} (λ y. not (has_id id y)) ss in (
+      let k = in_keep {x = x} (λ y. not (has_id id y)) ss in (
         λ m. let o = k.0 m in (o.0, eqb-false x.id id (not-true _ o.1)),
         λ m. k.1 (m.0, ap not (ne_eqb x.id id m.1)),
       )
@@ -152,9 +152,9 @@ module _ (id channel : ℕ) where
   length-rechannel ss = length-map ss (onto_if id channel)
 
   -- who stands there stood there, on its channel or on another
-  pub in-rechannel : {x : Station} (ss : List Station) → x ∈ rechannel id channel ss → (y : Station) × (y ∈ ss) × (x ≡ onto_if id channel y)
+  pub in_rechannel : {x : Station} (ss : List Station) → x ∈ rechannel id channel ss → (y : Station) × (y ∈ ss) × (x ≡ onto_if id channel y)
   unfolding rechannel
-  in-rechannel ss m = (in_map (onto_if id channel) ss).0 m
+  in_rechannel ss m = (in_map (onto_if id channel) ss).0 m
 
   -- another record
   pub other_rechannel : {x : Station} (ss : List Station) → (x.id ≡ id → ⊥) → (x ∈ ss) ↔ (x ∈ rechannel id channel ss)

@@ -10,7 +10,7 @@ use borrow.Author.Tests.{ltb-false, leb-true, leb-false}
 use Rattle.ground.specs.Lists.{◌∈◌}
 use Rattle.ground.proofs.Guards.{past, or_was, not_was}
 use Rattle.ground.proofs.Order.{none, ahead}
-use Rattle.ground.proofs.Positions.{in-at}
+use Rattle.ground.proofs.Positions.{in_at}
 use Rattle.distance.specs.Distance.{latitude_ok, longitude_ok, Placed}
 use Rattle.versions.specs.Version.{top}
 use Rattle.stations.specs.Image.{station_at, stations, version, verdict, scan, scanned, judged}
@@ -86,4 +86,4 @@ good s n e = (scan_good (stations s) (top (version s)) 0 0 (scanned-passed s n e
 
 -- every record of the table is fine
 pub fine_at : (s : List ℕ) (n : ℕ) → judged s ≡ Table n → (i : ℕ) → i < n → Fine (top (version s)) (station_at s i)
-fine_at s n e i h = (good s n e).each (station_at s i) (in-at (stations s) i _ (next (whole s n e) i h))
+fine_at s n e i h = (good s n e).each (station_at s i) (in_at (stations s) i _ (next (whole s n e) i h))

@@ -15,7 +15,7 @@ use Rattle.ground.specs.Lists.{◌∈◌, build, keep}
 use Rattle.ground.proofs.Built.{drop-build}
 use Rattle.ground.proofs.Cases.{either}
 use Rattle.ground.proofs.Order.{Ascending, none, ahead, ahead_of, rest_of, ascending_keep, ascending_map}
-use Rattle.ground.proofs.Positions.{in-build, ascending_at}
+use Rattle.ground.proofs.Positions.{in_build, ascending_at}
 use Rattle.stations.specs.Lists.{has_id, insert, without, onto, onto_if, rechannel, Apart, NoPair}
 use Rattle.stations.specs.declared.Station.{Station}
 use Rattle.stations.proofs.Ids.{Ascends}
@@ -33,10 +33,10 @@ module _ (near : Station → Station → Bool) where
   abbrev InTurn : List Station → Type 0
   InTurn ss = Ascending (λ (x y : Station). near x y ≡ false) ss
 
-  in-turn : (ss : List Station) → NoPair near ss → InTurn ss
+  in_turn : (ss : List Station) → NoPair near ss → InTurn ss
   unfolding NoPair Apart
-  in-turn [] c = none
-  in-turn (x ∷ xs) c = ahead c.0 (in-turn xs c.1)
+  in_turn [] c = none
+  in_turn (x ∷ xs) c = ahead c.0 (in_turn xs c.1)
 
   no_pair : (ss : List Station) → InTurn ss → NoPair near ss
   unfolding NoPair Apart
@@ -47,18 +47,18 @@ module _ (near : Station → Station → Bool) where
   unfolding build
   turns zero f h = none
   turns (suc n) f h =
-      ahead {x = f 0} (λ y m. let p = in-build n (λ i. f (suc i)) m in let l = p.1 in rw p.2 (h 0 (suc p.0) (omega arith) (omega arith)))
+      ahead {x = f 0} (λ y m. let p = in_build n (λ i. f (suc i)) m in let l = p.1 in rw p.2 (h 0 (suc p.0) (omega arith) (omega arith)))
       (turns n (λ i. f (suc i)) (λ i j l k. h (suc i) (suc j) (omega arith) (omega arith)))
 
   -- in a list of a function's first n values
   pub no_pair_build : (n : ℕ) (f : ℕ → Station) → NoPair near (build n f) ↔ ((i j : ℕ) → i < j → j < n → near (f i) (f j) ≡ false)
   no_pair_build n f = (
-    λ c i j h k. ascending_at (build n f) i j _ _ (in-turn (build n f) c) h (drop-build n f i (omega arith)) (drop-build n f j k),
+    λ c i j h k. ascending_at (build n f) i j _ _ (in_turn (build n f) c) h (drop-build n f i (omega arith)) (drop-build n f j k),
     λ h. no_pair (build n f) (turns n f h),
   )
 
   pub no_pair_keep : (p : Station → Bool) (ss : List Station) → NoPair near ss → NoPair near (keep p ss)
-  no_pair_keep p ss c = no_pair (keep p ss) (ascending_keep p ss (in-turn ss c))
+  no_pair_keep p ss c = no_pair (keep p ss) (ascending_keep p ss (in_turn ss c))
 
   pub no_pair_without : (id : ℕ) (ss : List Station) → NoPair near ss → NoPair near (without id ss)
   unfolding without
@@ -95,7 +95,7 @@ module _ (near : Station → Station → Bool) where
       unfolding rechannel
       no_pair_rechannel o c =
           no_pair (rechannel from.id channel ss)
-          (ascending_map (onto_if from.id channel) ss (both ss o (in-turn ss c)) (λ x y m n h. still_apart x y m n h.0 h.1))
+          (ascending_map (onto_if from.id channel) ss (both ss o (in_turn ss c)) (λ x y m n h. still_apart x y m n h.0 h.1))
         where
           both : (l : List Station) → Ascends l → InTurn l → Ascending (λ (x y : Station). (x.id < y.id) × (near x y ≡ false)) l
           both [] o c = none

@@ -10,8 +10,8 @@ use lib.ListN.{length}
 use Rattle.ground.specs.Lists.{◌∈◌, keep, some}
 use Rattle.ground.proofs.Cases.{either}
 use Rattle.ground.proofs.Keeps.{length-keep}
-use Rattle.ground.proofs.Order.{in-keep, ascending_keep}
-use Rattle.ground.proofs.Positions.{in-build}
+use Rattle.ground.proofs.Order.{in_keep, ascending_keep}
+use Rattle.ground.proofs.Positions.{in_build}
 use Rattle.wire.specs.Be.{Bytes}
 use Rattle.wire.proofs.Width.{be_lt}
 use Rattle.versions.specs.Version.{top, limit}
@@ -21,7 +21,7 @@ use Rattle.stations.specs.Encode.{version_of, encode}
 use Rattle.stations.specs.Lists.{has_id, twins, insert, without, onto, onto_if, rechannel, NoPair}
 use Rattle.stations.specs.declared.Station.{Station}
 use Rattle.stations.specs.declared.Judged.TheVariants.{Table}
-use Rattle.stations.proofs.Changed.{in_insert, ascends_insert, length_insert, in-rechannel, ascends_rechannel, length-rechannel}
+use Rattle.stations.proofs.Changed.{in_insert, ascends_insert, length_insert, in_rechannel, ascends_rechannel, length-rechannel}
 use Rattle.stations.proofs.Table.{whole, length-stations}
 use Rattle.stations.proofs.Fine.{Fine, Good, good}
 use Rattle.stations.proofs.Pairs.{no_pair_keep}
@@ -59,7 +59,7 @@ valid_image rs k = image-sound rs k.few k.good k.small k.single
 small_ids : (s : List ℕ) → Bytes s → SmallIds (stations s)
 unfolding stations station_at
 small_ids s b x m =
-    let p = in-build (count s) (station_at s) m in
+    let p = in_build (count s) (station_at s) m in
     rw p.2 (omega (arith, be_lt 4 s (8 + 16 * p.0) b))
 
 pub valid_table : (s : List ℕ) → Bytes s → (n : ℕ) → judged s ≡ Table n → Valid (stations s)
@@ -72,9 +72,9 @@ valid_table s b n e =
 pub valid_keep : (p : Station → Bool) (ss : List Station) → Valid ss → Valid (keep p ss)
 valid_keep p ss k =
     valid (version_of ss) (keep p ss)
-    (record { each = λ x m. k.good.each x ((in-keep p ss).0 m).0; ascends = ascending_keep p ss k.good.ascends })
+    (record { each = λ x m. k.good.each x ((in_keep p ss).0 m).0; ascends = ascending_keep p ss k.good.ascends })
     (omega (arith, k.few, length-keep p ss))
-    (λ x m. k.small x ((in-keep p ss).0 m).0)
+    (λ x m. k.small x ((in_keep p ss).0 m).0)
     (no_pair_keep twins p ss k.single)
 
 pub valid_without : (id : ℕ) (ss : List Station) → Valid ss → Valid (without id ss)
@@ -104,11 +104,11 @@ pub valid_rechannel : (id channel : ℕ) (ss : List Station) → 201 ≤ channel
 valid_rechannel id channel ss low high single k =
     valid (version_of ss) (rechannel id channel ss)
     (record {
-      each = λ x m. let o = in-rechannel id channel ss m in rw o.2 (fine_onto o.0 (k.good.each o.0 o.1));
+      each = λ x m. let o = in_rechannel id channel ss m in rw o.2 (fine_onto o.0 (k.good.each o.0 o.1));
       ascends = ascends_rechannel id channel ss k.good.ascends;
     })
     (omega (arith, k.few, length-rechannel id channel ss))
-    (λ x m. let o = in-rechannel id channel ss m in rw o.2 (small_onto o.0 (k.small o.0 o.1)))
+    (λ x m. let o = in_rechannel id channel ss m in rw o.2 (small_onto o.0 (k.small o.0 o.1)))
     single
   where
     fine_onto : {t : ℕ} (y : Station) → Fine t y → Fine t (onto_if id channel y)

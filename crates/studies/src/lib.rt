@@ -88,6 +88,7 @@ fn wanted_fault(wanted: Wanted) -> Verdict
 }
 
 // 23 where the id left aside is that of no record; 0 leaves nobody aside.
+#[tactic(auto, unfolding(crate::specs::Studies::aside_fault, ground::specs::Guard::given))]
 fn aside_fault(table: &[u8], id: u32) -> Verdict
     requires { Accepted table.now }
     ensures { result ≡ aside_fault id (stations table.now) }

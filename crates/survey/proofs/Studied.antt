@@ -10,7 +10,7 @@ use native.Mathlib.Decide.{ℕ_discrete, dec_lt}
 use lib.Dec.{eqb}
 use borrow.Author.Tests.{eq-eqb, ne_eqb, eqb-false, not-true}
 use Rattle.ground.specs.Lists.{◌∈◌, span, build, keep, every, each}
-use Rattle.ground.proofs.Order.{in-keep, in_span, Ascending, By, ascending_keep}
+use Rattle.ground.proofs.Order.{in_keep, in_span, Ascending, By, ascending_keep}
 use Rattle.ground.proofs.Keeps.{keep-map, every_map, each_map, build-span, keep-keep, every-keep, each_keep, keep_all, every_cong}
 use Rattle.spacing.specs.Pair.{Assignment}
 use Rattle.stations.specs.Image.{station_at, stations, judged}
@@ -38,7 +38,7 @@ nobody_but false false h = refl
 pub studied_exactly : (t : Terms) (ss : List Station) (x : Station) → (x ∈ studied t ss) ↔ ((x ∈ ss) × (x.id ≡ t.aside → ⊥))
 unfolding studied looked
 studied_exactly t ss x =
-    let k = in-keep {x = x} (looked t) ss in
+    let k = in_keep {x = x} (looked t) ss in
     (λ m. ((k.0 m).0, eqb-false x.id t.aside (not-true _ (k.0 m).1)), λ m. k.1 (m.0, rw (ne_eqb x.id t.aside m.1)))
 
 -- they are those of the table without the record left aside

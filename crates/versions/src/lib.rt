@@ -16,6 +16,7 @@ pub const HEADER: usize = 8;
 pub const RECORD: usize = 16;
 
 // The papers have this version.
+#[tactic(auto, unfolding(crate::specs::Version::known))]
 pub fn is_known(version: u16) -> bool
     ensures { result ≡ known version }
 {
@@ -23,6 +24,7 @@ pub fn is_known(version: u16) -> bool
 }
 
 // It carries so many records.
+#[tactic(auto, unfolding(crate::specs::Version::carries, crate::specs::Version::line, crate::specs::Version::limit))]
 pub fn is_carried(version: u16, n: usize) -> bool
     ensures { result ≡ carries version n }
 {
@@ -36,6 +38,7 @@ pub fn is_carried(version: u16, n: usize) -> bool
 }
 
 // The highest flags of its records.
+#[tactic(auto, unfolding(crate::specs::Version::top))]
 pub fn top_of(version: u16) -> u8
     ensures { result ≡ top version }
 {
@@ -43,6 +46,7 @@ pub fn top_of(version: u16) -> u8
 }
 
 // A list of so many records takes no more.
+#[tactic(auto, unfolding(crate::specs::Version::limit))]
 pub fn is_full(n: usize) -> bool
     ensures { result ≡ leb limit n }
 {
@@ -50,6 +54,7 @@ pub fn is_full(n: usize) -> bool
 }
 
 // The version that a list of n records calls for.
+#[tactic(auto, using(crate::proofs::Versions::calls_one, crate::proofs::Versions::calls_two), unfolding(crate::specs::Version::line))]
 pub fn version_for(n: usize) -> u16
     ensures { result ≡ version_for n }
 {

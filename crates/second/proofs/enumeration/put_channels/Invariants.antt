@@ -1,0 +1,10 @@
+use Prim.Native.Nat.{◌+◌, ◌-◌, ◌*◌, ◌≤◌}
+use mathlib.Core.Path.{◌≡◌}
+use lib.ListN.{length}
+use Rattle.second.proofs.enumeration.put_channels.Given as goal
+
+abbrev pub invariant-loop-channel : goal.invariant-loop-channel
+invariant-loop-channel l = (221 ≤ l.channel) × (l.channel ≤ 301) × (l.at + 663 ≤ l.start + 3 * l.channel) × (length l.rows ≡ length l.initial.rows)
+
+abbrev pub decreases-loop-channel : goal.decreases-loop-channel
+decreases-loop-channel l = 301 - l.channel
