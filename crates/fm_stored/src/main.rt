@@ -1,8 +1,13 @@
 // The programs on stored inputs: each argument names a file, and the program that reads it.
-
-// Whether a name begins with a word.
 #![tactic(auto)]
 
+use std::alloc::Global;
+use std::env;
+use std::fs::File;
+use std::os::fd::AsRawFd;
+use std::rt::Files;
+
+// Whether a name begins with a word.
 fn begins(name: &[u8], word: &[u8]) -> bool {
     if name.len() < word.len() {
         return false;
@@ -36,28 +41,29 @@ fn run(name: &[u8], fd: i32) {
     }
 }
 
-// The argument at a place: its name, and what the program writes.
-fn one(i: usize) {
-    let mut name = io::buffer();
-    let length = os::arg(i, &mut name);
-    if os::errno() != 0 {
-        return;
-    }
-    let fd = os::open_read(&name[..length]);
-    if fd < 0 {
-        os::fail(&name[..length]);
-        return;
-    }
-    io::write_all(1, b"== ");
-    io::write_all(1, &name[..length]);
-    io::write_all(1, b"\n");
-    run(&name[..length], fd);
-    libc::close(fd);
+// A file that cannot be opened: its name and the error, on standard error.
+fn tell_unopened(alloc: Global, name: &str, error: std::io::Error) -> std::io::Result<()> {
+    let message = format!(in alloc; "{name}: {error}\n")?;
+    io::write_all(2, message.as_bytes());
+    Ok(())
 }
 
-fn main() {
-    let n = os::arg_count();
-    for i in 1..n {
-        one(i);
+// An argument: its name, and what the program writes.
+fn one<R: Files<File = File> + AllocGlobal>(rt: &R, name: &str) -> std::io::Result<()> {
+    let file = match File::open(rt, name) {
+        Ok(file) => file,
+        Err(error) => return tell_unopened(rt.alloc(), name, error),
+    };
+    io::write_all(1, b"== ");
+    io::write_all(1, name.as_bytes());
+    io::write_all(1, b"\n");
+    run(name.as_bytes(), file.as_raw_fd());
+    Ok(())
+}
+
+fn main(rt: HostRuntime) -> std::io::Result<()> {
+    for name in env::args(&rt)?.skip(1) {
+        one(&rt, name.as_str())?;
     }
+    Ok(())
 }

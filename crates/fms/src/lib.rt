@@ -35,16 +35,14 @@ fn word(number: u32, value: u32) -> u64
     (number as u64) * 4_294_967_296 + (value as u64)
 }
 
-#[unsafe(no_mangle)]
-pub extern "C" fn fms_read(table: &[u8]) -> u64
+pub fn fms_read(table: &[u8]) -> u64
     ensures { Says (read_of table.now) result }
 {
     let a = desk::read(table);
     pack(a)
 }
 
-#[unsafe(no_mangle)]
-pub extern "C" fn fms_distance(lat1: i32, lon1: i32, lat2: i32, lon2: i32) -> u64
+pub fn fms_distance(lat1: i32, lon1: i32, lat2: i32, lon2: i32) -> u64
     ensures { Says (distance_of lat1 lon1 lat2 lon2) result }
 {
     let a = Site {
@@ -59,8 +57,7 @@ pub extern "C" fn fms_distance(lat1: i32, lon1: i32, lat2: i32, lon2: i32) -> u6
     pack(d)
 }
 
-#[unsafe(no_mangle)]
-pub extern "C" fn fms_add(
+pub fn fms_add(
     table: &[u8],
     id: u32,
     channel: u32,
@@ -84,24 +81,21 @@ pub extern "C" fn fms_add(
     pack(a)
 }
 
-#[unsafe(no_mangle)]
-pub extern "C" fn fms_withdraw(table: &[u8], id: u32, image: &mut [u8]) -> u64
+pub fn fms_withdraw(table: &[u8], id: u32, image: &mut [u8]) -> u64
     ensures { Packed (changed_for table.now (withdrawing id)) image.old image.new result }
 {
     let a = changes::withdraw(table, id, image);
     pack(a)
 }
 
-#[unsafe(no_mangle)]
-pub extern "C" fn fms_move(table: &[u8], id: u32, channel: u32, image: &mut [u8]) -> u64
+pub fn fms_move(table: &[u8], id: u32, channel: u32, image: &mut [u8]) -> u64
     ensures { Packed (changed_for table.now (moving id channel)) image.old image.new result }
 {
     let a = changes::move_to(table, id, channel, image);
     pack(a)
 }
 
-#[unsafe(no_mangle)]
-pub extern "C" fn fms_check(
+pub fn fms_check(
     table: &[u8],
     channel: u32,
     class: u32,
@@ -127,8 +121,7 @@ pub extern "C" fn fms_check(
     pack(a)
 }
 
-#[unsafe(no_mangle)]
-pub extern "C" fn fms_arrange(
+pub fn fms_arrange(
     table: &[u8],
     first: u32,
     last: u32,
@@ -184,8 +177,7 @@ fn put_why(why: Why, reason: &mut [u32; 4])
     reason[3] = n.column;
 }
 
-#[unsafe(no_mangle)]
-pub extern "C" fn fms_reason(
+pub fn fms_reason(
     table: &[u8],
     channel: u32,
     class: u32,
@@ -214,8 +206,7 @@ pub extern "C" fn fms_reason(
 }
 
 // The limit that S is held to for two classes in any order, at a column; 0 where there is none.
-#[unsafe(no_mangle)]
-pub extern "C" fn fms_limit(a: u32, b: u32, column: u32) -> u64
+pub fn fms_limit(a: u32, b: u32, column: u32) -> u64
     ensures { result ≡ limit_for table_a a b column }
 {
     squares::limit_for(a, b, column)
