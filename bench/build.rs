@@ -29,7 +29,7 @@ fn main() {
     println!("cargo:rerun-if-changed={}", archive.display());
     if let Err(error) = fs::copy(&archive, out.join("libfms.a")) {
         eprintln!(
-            "There is no proved library at {} ({error}): run `rt staticlib fms` at the top of the repository, \
+            "There is no proved library at {} ({error}): run `tools/staticlib` at the top of the repository, \
              or `bench/native-lib` on a machine that is not x86-64, or set FMS_LIB to the archive.",
             archive.display()
         );

@@ -15,10 +15,10 @@ skip() {
 command -v "$cc" >/dev/null 2>&1 || skip "there is no C compiler ($cc)"
 if [ ! -f "$archive" ]; then
     command -v rt >/dev/null 2>&1 || skip "target/staticlib/libfms.a is not built, and there is no rt"
-    said=$(cd "$root" && rt staticlib fms 2>&1 </dev/null)
+    said=$("$root/tools/staticlib" 2>&1 </dev/null)
     [ -f "$archive" ] || {
         printf '%s\n' "$said"
-        printf 'c: FAILED, rt staticlib fms wrote no target/staticlib/libfms.a\n'
+        printf 'c: FAILED, tools/staticlib wrote no target/staticlib/libfms.a\n'
         exit 1
     }
 fi

@@ -1153,7 +1153,8 @@ hold "fm by the PATH" [ "$(env PATH="$room/elsewhere:$PATH" desk check one.fms 2
 hold "fm named to the shell" [ "$(cd "$root" && sh fm check "$room/one.fms" 250 A II 0 3703 --raw)" = 'short 0' ]
 
 # ---- programs that are missing or fail: a copy of fm over programs of this test's own
-mkdir -p other/target/bin tools kit/docs kit/on/x86_64/toolchain/lib kit/on/other/toolchain/bin kit/on/other/toolchain/lib
+mkdir -p tools kit/toolchain/bin kit/toolchain/lib
+for program in check arrange change study reason; do mkdir -p "other/crates/fm_$program/out"; done
 cp "$root/fm" other/fm
 fm=$room/other/fm
 for tool in sh awk cat cmp dirname ls mv od printf rm sed tr; do
@@ -1175,14 +1176,14 @@ script() { # FILE LINES
 }
 # A program that answers empty input as the proved ones do, and any other with given lines.
 answers() { # NAME LINES
-    script "other/target/bin/$1" "[ -n \"\$(od -An -N 1)\" ] || { echo refused 1 0; exit; }
+    script "other/crates/$1/out/$1" "[ -n \"\$(od -An -N 1)\" ] || { echo refused 1 0; exit; }
 cat >/dev/null
 $2"
 }
 script tools/uname 'echo x86_64'
 path=$room/tools
 try 3 check one.fms 250 A II 0 0 <<'SAYS'
-fm: target/bin/fm_check is not built, and there is no rt to build it with
+fm: crates/fm_check/out/fm_check is not built, and there is no rt to build it with
 SAYS
 # The crates that fm_check stands on are four: io and libc are none of the repository, and aside is not below it.
 cat >other/crates.txt <<'CRATES'
@@ -1194,60 +1195,64 @@ wire: ground
 ground:
 fm_arrange: ground
 CRATES
-script tools/rt 'echo "rt: it does not prove"; exit 1'
+script tools/rt 'echo "rt: it does not prove" >&2; exit 1'
 try 3 arrange one.fms A II 0 0 <<'SAYS'
-fm: building fm_arrange with rt check fm_arrange; this is done once and takes some minutes
+fm: building fm_arrange with rt run in crates/fm_arrange; this is done once and takes some minutes
 rt: it does not prove
-fm: rt check fm_arrange did not prove and build target/bin/fm_arrange
+fm: rt run did not prove and build crates/fm_arrange/out/fm_arrange
 SAYS
 script tools/rt 'exit 0'
 try 3 arrange one.fms A II 0 0 <<'SAYS'
-fm: building fm_arrange with rt check fm_arrange; this is done once and takes some minutes
-fm: rt check fm_arrange did not prove and build target/bin/fm_arrange
+fm: building fm_arrange with rt run in crates/fm_arrange; this is done once and takes some minutes
+fm: rt run did not prove and build crates/fm_arrange/out/fm_arrange
 SAYS
 answers fm_arrange 'echo 221 0 0'
-mv other/target/bin/fm_arrange built
-script tools/rt "mv $room/built target/bin/fm_arrange; printf 0; exit 1"
+mv other/crates/fm_arrange/out/fm_arrange built
+script tools/rt "mv $room/built out/fm_arrange; printf 0 >&2; exit 1"
 try 3 arrange --raw one.fms A II 0 0 <<'SAYS'
-fm: building fm_arrange with rt check fm_arrange; this is done once and takes some minutes
+fm: building fm_arrange with rt run in crates/fm_arrange; this is done once and takes some minutes
 0
-fm: rt check fm_arrange did not prove and build target/bin/fm_arrange
+fm: rt run did not prove and build crates/fm_arrange/out/fm_arrange
 SAYS
-rm -f other/target/bin/fm_arrange
-script tools/rt 'echo "rt: ground proved (unchanged since it was last proved)"
-echo "crates/wire: a fact fails" >&2
-echo "rt: wire NOT PROVED (exit 1, 3 s)"
-echo "rt: lines proved (12 s)"
-echo "rt: fm_check NOT PROVED: its dependency wire is not proved"
-echo "rt: FAILED: wire fm_check"
+rm -f other/crates/fm_arrange/out/fm_arrange
+script tools/rt 'exec >&2
+echo "crate ground: modules loaded=110 checked=15"
+echo "logic=proved functions=3 sum=0"
+echo "crate lines: modules loaded=0 checked=290"
+echo "logic=proved functions=9 sum=0"
+echo "fn wire::get8: not proved"
+echo "crate wire: modules loaded=0 checked=156"
+echo "logic=not-proved"
+echo "rt: the library wire did not build, so nothing above it was checked"
 exit 1'
 try 3 check one.fms 250 A II 0 0 <<'SAYS'
-fm: building fm_check with rt check fm_check; this is done once and takes some minutes
+fm: building fm_check with rt run in crates/fm_check; this is done once and takes some minutes
 fm: 1 of 4 crates proved (ground)
 fm: 2 of 4 crates proved (lines)
-rt: ground proved (unchanged since it was last proved)
-crates/wire: a fact fails
-rt: wire NOT PROVED (exit 1, 3 s)
-rt: lines proved (12 s)
-rt: fm_check NOT PROVED: its dependency wire is not proved
-rt: FAILED: wire fm_check
-fm: rt check fm_check did not prove and build target/bin/fm_check
+crate ground: modules loaded=110 checked=15
+logic=proved functions=3 sum=0
+crate lines: modules loaded=0 checked=290
+logic=proved functions=9 sum=0
+fn wire::get8: not proved
+crate wire: modules loaded=0 checked=156
+logic=not-proved
+rt: the library wire did not build, so nothing above it was checked
+fm: rt run did not prove and build crates/fm_check/out/fm_check
 SAYS
-# Proves four crates and leaves what stands in `built` as the program.
-proves="[ \"\$*\" = 'check fm_check' ] || exit 2
-echo 'rt: ground proved (1 s)'
-echo 'logic=proved (of wire)'
-echo 'rt: wire proved (2 s)'
-echo 'rt: lines proved (unchanged since it was last proved)'
-echo 'rt: fm_check proved (8 s)'
-mv $room/built target/bin/fm_check
-echo \"rt: fm_check ran as nobody, and wrote what its file 'stdout' has (0 s)\"
-echo 'rt: ok, 4 crates proved'"
+# Proves four crates, leaves what stands in `built` as the program and runs it.
+proves="[ \"\$*\" = run ] || exit 2
+for crate in ground wire lines fm_check; do
+    echo \"crate \$crate: modules loaded=1 checked=1\"
+    echo 'logic=proved functions=1 sum=0'
+done >&2
+mv $room/built out/fm_check
+echo 'rt: running out/fm_check; to give it other input, run that file yourself' >&2
+echo refused 1 0"
 answers fm_check 'echo short 0'
-mv other/target/bin/fm_check built
+mv other/crates/fm_check/out/fm_check built
 script tools/rt "$proves"
 try 0 check one.fms 250 A II 0 0 <<'SAYS'
-fm: building fm_check with rt check fm_check; this is done once and takes some minutes
+fm: building fm_check with rt run in crates/fm_check; this is done once and takes some minutes
 fm: 1 of 4 crates proved (ground)
 fm: 2 of 4 crates proved (wire)
 fm: 3 of 4 crates proved (lines)
@@ -1266,27 +1271,32 @@ on_terminal() { # WORDS
     got=$(tr '\r' '<' <said | sed 's/<$//; s/  */ /g; s/ $//')
 }
 if env SHELL=/bin/sh script -q -e -c true /dev/null >/dev/null 2>&1 </dev/null; then
-    mv other/target/bin/fm_check built
+    mv other/crates/fm_check/out/fm_check built
     on_terminal check one.fms 250 A II 0 0
     hold "a build on a terminal: status $ended" [ "$ended" -eq 0 ]
-    hold "a build on a terminal: $got" [ "$got" = "fm: building fm_check with rt check fm_check; this is done once and takes some minutes
+    hold "a build on a terminal: $got" [ "$got" = "fm: building fm_check with rt run in crates/fm_check; this is done once and takes some minutes
 <fm: 0 of 4 crates proved <fm: 1 of 4 crates proved (ground) <fm: 2 of 4 crates proved (wire) <fm: 3 of 4 crates proved (lines) <fm: 4 of 4 crates proved (fm_check)
 Nothing is short: channel 250 is acceptable for class A in zone II at 00-00-00N 000-00-00E." ]
-    mv other/target/bin/fm_check built
-    script tools/rt 'echo "rt: ground proved (1 s)"; echo "rt: wire NOT PROVED (exit 1, 3 s)"; exit 1'
+    mv other/crates/fm_check/out/fm_check built
+    script tools/rt 'exec >&2
+echo "crate ground: modules loaded=1 checked=1"
+echo "logic=proved functions=1 sum=0"
+echo "logic=not-proved"
+exit 1'
     on_terminal check one.fms 250 A II 0 0
     hold "a failed build on a terminal: status $ended" [ "$ended" -eq 3 ]
-    hold "a failed build on a terminal: $got" [ "$got" = "fm: building fm_check with rt check fm_check; this is done once and takes some minutes
+    hold "a failed build on a terminal: $got" [ "$got" = "fm: building fm_check with rt run in crates/fm_check; this is done once and takes some minutes
 <fm: 0 of 4 crates proved <fm: 1 of 4 crates proved (ground)
-rt: ground proved (1 s)
-rt: wire NOT PROVED (exit 1, 3 s)
-fm: rt check fm_check did not prove and build target/bin/fm_check" ]
+crate ground: modules loaded=1 checked=1
+logic=proved functions=1 sum=0
+logic=not-proved
+fm: rt run did not prove and build crates/fm_check/out/fm_check" ]
     script tools/rt 'kill -s INT 0'
     on_terminal check one.fms 250 A II 0 0
     hold "an interrupted build: status $ended" [ "$ended" -eq 130 ]
     hold "an interrupted build: a line of its own is left" [ "$(sed -n '$=' said) $(tail -c 1 said | od -An -tu1 | tr -d ' ')" = '2 10' ]
     rm -f said
-    mv built other/target/bin/fm_check
+    mv built other/crates/fm_check/out/fm_check
 else
     printf 'fm: no util-linux script at hand, builds on a terminal were not tested\n'
 fi
@@ -1377,7 +1387,7 @@ SAYS
 hold "a failed program leaves nothing" only folder
 
 # A name that is taken while the program runs, and a temporary name that is taken.
-script other/target/bin/fm_change "case \$(od -An -v -tu1 -N 5 | tr -s ' \n' ' ') in
+script other/crates/fm_change/out/fm_change "case \$(od -An -v -tu1 -N 5 | tr -s ' \n' ' ') in
 '') echo refused 1 0 ;;
 ' 119 0 0 0 0 ') echo refused 23 0 ;;
 *) echo taken >$room/folder/new.fms; cat $room/empty.fms ;;
@@ -1396,7 +1406,7 @@ rm -f folder/.fm-*.new
 
 # A program that keeps at most so many bytes of its input in `seen`, and then has given lines.
 keeps() { # NAME COUNT LINES
-    script "other/target/bin/$1" "seen=\$(od -An -v -tu1 -N $2 | tr -s ' \n' ' ')
+    script "other/crates/$1/out/$1" "seen=\$(od -An -v -tu1 -N $2 | tr -s ' \n' ' ')
 [ -n \"\$seen\" ] || { echo refused 1 0; exit; }
 printf '%s' \"\$seen\" >$room/seen
 $3"
@@ -1454,22 +1464,22 @@ hold "fm distance: the bytes are $(cat seen)" [ "$(cat seen)" = ' 100 0 2 61 6 2
 rm -f seen
 
 # ---- programs that do not run by themselves: the toolchain's loader, and its emulator on another machine
-script other/target/bin/fm_check 'exit 127'
+script other/crates/fm_check/out/fm_check 'exit 127'
 rm -f tools/rt
 try 3 check one.fms 250 A II 0 0 <<'SAYS'
 fm: fm_check does not run by itself on this machine (x86_64), and there is no rt whose toolchain could run it
 SAYS
-script tools/rt "[ \"\$1\" = doc ] && echo $room/kit/docs/START-HERE.md"
+script tools/rt "[ \"\$1\" = doc ] && echo $room/kit/START-HERE.md"
 try 3 check one.fms 250 A II 0 0 <<SAYS
-fm: the toolchain at $room/kit/on/x86_64/toolchain cannot run fm_check on this machine (x86_64)
+fm: the toolchain at $room/kit/toolchain cannot run fm_check on this machine (x86_64)
 SAYS
-script kit/on/x86_64/toolchain/lib/ld-linux-x86-64.so.2 "[ \"\$*\" = '--library-path $room/kit/on/x86_64/toolchain/lib $room/other/target/bin/fm_check' ] && echo short 0"
+script kit/toolchain/lib/ld-linux-x86-64.so.2 "[ \"\$*\" = '--library-path $room/kit/toolchain/lib $room/other/crates/fm_check/out/fm_check' ] && echo short 0"
 try 0 check one.fms 250 A II 0 0 --raw <<'SAYS'
 short 0
 SAYS
 script tools/uname 'echo other'
-: >kit/on/other/toolchain/lib/ld-linux-x86-64.so.2
-script kit/on/other/toolchain/bin/qemu-x86_64 "[ \"\$*\" = '$room/kit/on/other/toolchain/lib/ld-linux-x86-64.so.2 --library-path $room/kit/on/other/toolchain/lib $room/other/target/bin/fm_check' ] && echo short 0"
+: >kit/toolchain/lib/ld-linux-x86-64.so.2
+script kit/toolchain/bin/qemu-x86_64 "[ \"\$*\" = '$room/kit/toolchain/lib/ld-linux-x86-64.so.2 --library-path $room/kit/toolchain/lib $room/other/crates/fm_check/out/fm_check' ] && echo short 0"
 try 0 check one.fms 250 A II 0 0 --raw <<'SAYS'
 short 0
 SAYS

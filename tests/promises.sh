@@ -16,7 +16,7 @@ words=${TMPDIR:-/tmp}/yervughat-words.$$
 trap 'rm -f "$words"' EXIT
 trap 'exit 1' HUP INT TERM
 {
-    find crates \( -name '*.rt' -o -name '*.antt' \) -exec cat {} + | tr -cs "[:alnum:]_·′÷ℕℤ-" '\n'
+    find crates -name out -prune -o \( -name '*.rt' -o -name '*.antt' \) -exec cat {} + | tr -cs "[:alnum:]_·′÷ℕℤ-" '\n'
     find crates -name '*.edit' | sed 's|.*/||; s|\.edit$||'
     ls crates
 } | sort -u >"$words"

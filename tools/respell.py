@@ -4,7 +4,7 @@
 Run once, after port.py. A definition or a field of specs/ and a lemma of proofs/ is in snake case; a dash stays only
 where it joins two names that stand for themselves (a definition, a type, a function of src/). Types, facts and modules keep
 their capitals, the paper's own symbols stay (S, D, P, Q, NS, EW, I-A), and names of src/ are not touched. The edits of
-must-fail/ and the names in backticks of the pages follow. It writes what it renamed to docs/RESPELLED.txt."""
+must-fail/ and the names in backticks of the pages follow. docs/PORT.md has what was renamed."""
 import glob, os, re, sys
 
 TOKEN = re.compile(r"[^\s(){}\[\];,.:«»`\"'λ⌜⌝/|&=<>+*◌@!?^~%]+(?:'+)?")
@@ -13,7 +13,9 @@ HEAD = re.compile(
     r"([^\s(){}\[\];,.:«»`\"]+?)((?:\s*[({].*)?)\s*:(?:\s|$)")
 KEEP = {"I-A"}
 # words of the older library inside names
-OLDER = {"getD": "get_or", "toZ": "to_z", "ofZ": "of_z", "natAbs": "nat_abs"}
+OLDER = {"getD": "get_or", "get_d": "get_or", "toZ": "to_z", "ofZ": "of_z", "natAbs": "nat_abs"}
+# what port.py made of a name with such a word
+MADE = {"get_d_map": "get_or-map"}
 
 
 def snake(part):
@@ -29,7 +31,7 @@ def declared(path):
         if line.lstrip().startswith(("--", "use ", "|", "let ", "pub mod", "mod ", "module ")):
             continue
         m = HEAD.match(line)
-        if m and not m.group(1).startswith(("λ", "let", "in")):
+        if m and m.group(1) not in ("λ", "let", "in"):
             yield m.group(1)
 
 
@@ -51,8 +53,8 @@ stand = {snake(w) for w in words if "-" not in w} | source_names() | set(OLDER.v
 
 
 def respelled(name, lemma):
-    if name in KEEP:
-        return name
+    if name in KEEP or name in MADE:
+        return MADE.get(name, name)
     parts = [snake(p) for p in name.split("-")]
     return ("-" if lemma and all(p in stand - PLAIN for p in parts) else "_").join(parts)
 
@@ -78,6 +80,16 @@ def brought_in():
                     yield item.strip().split(" as ")[0]
 
 
+def aliases():
+    # names that a file gives to what it brings in
+    for path in glob.glob("crates/**/*.antt", recursive=True):
+        for line in open(path, encoding="utf-8"):
+            if line.startswith(("use ", "pub use ")):
+                yield from re.findall(r"\sas\s+([a-z][^\s,}]*)", line)
+
+
+for n in sorted(set(aliases())):
+    names[n] = respelled(n, False)
 theirs = set(brought_in())
 names = {a: b for a, b in names.items() if a != b and a not in theirs}
 
@@ -122,7 +134,4 @@ for path in ["README.md"] + sorted(glob.glob("docs/*.md")):
     new = re.sub(r"`[^`\n]+`", lambda m: turn(m.group(0)), text)
     if new != text:
         open(path, "w", encoding="utf-8").write(new)
-with open("docs/RESPELLED.txt", "w", encoding="utf-8") as out:
-    for a, b in sorted(names.items()):
-        out.write(f"{a} {b}\n")
 print(len(names), "names")

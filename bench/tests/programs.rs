@@ -1,5 +1,5 @@
 //! The programs held against the naive desk: all that they print, byte for byte, on made, cut, damaged, full and overlong inputs.
-//! They are target/bin/fm_*, as `rt check` builds them. FMS_RUN names a command that runs them where they do not run by themselves,
+//! They are crates/NAME/out/NAME, as `rt run` builds them there. FMS_RUN names a command that runs them where they do not run by themselves,
 //! FMS_PROGRAMS how many inputs each gets.
 
 mod common;
@@ -26,7 +26,9 @@ const PROGRAMS: [&str; 5] = [
 
 fn path(program: &str) -> PathBuf {
     Path::new(env!("CARGO_MANIFEST_DIR"))
-        .join("../target/bin")
+        .join("../crates")
+        .join(program)
+        .join("out")
         .join(program)
 }
 
