@@ -3,7 +3,7 @@ use Prim.Native.Nat.{◌+◌, ◌/◌, ◌≤◌, ◌<◌}
 use native.Mathlib.Omega.{arith}
 use Rattle.versions.proofs.Versions.{limit_small}
 use Rattle.stations.specs.Image.{count}
-use Rattle.stations.specs.Scanning.{scanned_from, SoundTo}
+use Rattle.stations.specs.Scanning.{scanned_from}
 use Rattle.stations.proofs.Table.{Whole, whole_headed}
 use Rattle.stations.proofs.Scanning.{ahead_next, sound-start}
 use Rattle.stations.proofs.judging.sound_to.Goals as goal
@@ -29,10 +29,6 @@ overflow_add-at c = omega (arith, small (goal.at.overflow_add-at c).At-loop-at)
 pub four_are_sound-requires : goal.four_are_sound-requires
 four_are_sound-requires c = let a = c.loop-at.invariant.0 in
     record { topped = a.topped; placed = a.placed; within = inside (goal.at.four_are_sound-requires c).In-loop-at; before = a.before }
-
--- sound up to the place that is reached
-reached : (c : At-loop-at) → SoundTo c.args.table.now c.loop-at.at
-reached c = let a = c.loop-at.invariant.0 in record { headed = a.topped.headed; placed = a.placed; within = omega (arith, a.within); sound = c.loop-at.invariant.1 }
 
 pub loop-at-smaller : goal.loop-at-smaller
 loop-at-smaller c = omega (arith, c.loop-at.invariant.0.placed, inside (goal.at.loop-at-smaller c).In-loop-at)
