@@ -29,12 +29,12 @@ writing='write_all|libc::write|io::(write|print)|print(ln)?!' reading='read_full
 [ "$(printf '%s' "$outside" | count 'streams::read\(')" -eq 1 ] || wrong 'a program reads at more than one place'
 
 # A mark is a parameter, named in a promise, or the last argument of a call; it is made once, in run, and lent there.
-rest=$(printf '%s' "$telling" | sed 's/mark: &mut usize) -> bool//; s/mark\.old mark\.new//; s/, mark)//g')
+rest=$(printf '%s' "$telling" | sed 's/^ *mark: &mut usize,$//; s/mark: &mut usize) -> Result<(), Unwritten>//; s/mark\.old mark\.new//; s/, mark)//g; s/hand_over(mark)//g')
 [ "$(printf '%s' "$rest" | count 'let mut mark: usize = 0;')" -eq 1 ] || wrong 'marks are made at more than one place'
 [ "$(printf '%s' "$rest" | count '&mut mark\)')" -eq 1 ] || wrong 'a mark is lent at more than one place'
 [ "$(printf '%s' "$rest" | count '\<mark\>')" -eq 2 ] || wrong 'a mark is used in another way than passed on'
 # What hands bytes over is given the mark of its caller.
-[ "$(printf '%s' "$telling" | count '\<(hand|room)\(')" -eq "$(printf '%s' "$telling" | count '\<(hand|room)\([^()]*, mark\)')" ] || wrong 'bytes are handed over at another mark'
+[ "$(printf '%s' "$telling" | count '\<(hand|hand_over|room)\(')" -eq "$(printf '%s' "$telling" | count '\<(hand|hand_over|room)\(([^()]*, )?mark\)')" ] || wrong 'bytes are handed over at another mark'
 
 [ "$bad" -eq 0 ] && printf 'marks: ok\n'
 exit "$bad"

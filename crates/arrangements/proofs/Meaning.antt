@@ -1,5 +1,6 @@
 -- What the list of arrangements is: a row stands in it exactly when it is an arrangement; it ascends strictly, so each
 -- stands once; and there is only one such list. Assumes nothing.
+use Rattle.std.specs.Prelude.{Ok}
 use mathlib.Core.Path.{◌≡◌, refl, sym, ap, ◌∙◌, subst}
 use mathlib.Core.Logic.{◌↔◌, inl, inr}
 use mathlib.Core.Bool.{Bool, true, false, cond, not}
@@ -21,7 +22,6 @@ use Rattle.spacing.specs.Pair.{Assignment}
 use Rattle.stations.specs.Image.{stations, count, Accepted}
 use Rattle.stations.specs.Lists.{has_id, movable, without, onto}
 use Rattle.stations.specs.declared.Station.{Station}
-use Rattle.stations.specs.declared.Verdict.TheVariants.{Sound}
 use Rattle.survey.specs.Ways.{near, on_channel, studied, clear}
 use Rattle.survey.proofs.Studied.{studied_ascend}
 use Rattle.desk.specs.Answers.{grant}
@@ -181,7 +181,7 @@ module _ (km : ℕ → ℕ → ℕ → ℕ) (ss : List Station) where
           one_ascending strict l m a.ascending b.ascending (λ x. (λ h. (b.exactly x).1 ((a.exactly x).0 h), λ h. (a.exactly x).1 ((b.exactly x).0 h)))
 
 -- where table and question pass, the numbers that are granted are those of the one complete list by the chosen table
-pub granted : (s : List ℕ) (w : Wanted) → Accepted s → study_fault (stations s) w ≡ Sound → (l : List Row) → Complete (chosen w.standard) (studied (terms_asked w) (stations s)) (asked w) w.first w.last l → arranged_for s w ≡ grant (flat l)
+pub granted : (s : List ℕ) (w : Wanted) → Accepted s → study_fault (stations s) w ≡ (Ok tt) → (l : List Row) → Complete (chosen w.standard) (studied (terms_asked w) (stations s)) (asked w) w.first w.last l → arranged_for s w ≡ grant (flat l)
 unfolding arranged_for
 granted s w e q l c =
     let ss = studied (terms_asked w) (stations s) in

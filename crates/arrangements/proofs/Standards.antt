@@ -1,5 +1,6 @@
 -- 02, R-6: Arrange by another standard. By 1 it is what it was; a row that moves nobody by 1 stands by 2; and a row that moves
 -- somebody need not, since 2 may free the channel. Assumes nothing.
+use Rattle.std.specs.Prelude.{Ok}
 use mathlib.Core.Path.{◌≡◌, refl, ap}
 use mathlib.Core.Bool.{not, ◌&&◌}
 use mathlib.Core.List.{List, [], ◌∷◌}
@@ -21,7 +22,6 @@ use Rattle.spacing.proofs.Standards.{spaced_by_1}
 use Rattle.stations.specs.Image.{stations, count, Accepted}
 use Rattle.stations.specs.Lists.{movable, without}
 use Rattle.stations.specs.declared.Station.{Station}
-use Rattle.stations.specs.declared.Verdict.TheVariants.{Sound}
 use Rattle.survey.specs.Ways.{as_it_stands, looked, studied, clear}
 use Rattle.survey.proofs.Studied.{studied-known}
 use Rattle.desk.specs.Answers.{grant}
@@ -42,18 +42,18 @@ arranged_1 s w = study_1 s w (rows_for (asked w) w.first w.last)
 abbrev pub rows_by : ℕ → List ℕ → Wanted → List Row
 rows_by standard s w = arrangements (chosen standard) (asked w) (studied (terms_asked (by standard w)) (stations s)) w.first w.last
 
-pub granted_rows : (standard : ℕ) (s : List ℕ) (w : Wanted) → Accepted s → study_fault (stations s) (by standard w) ≡ Sound → arranged_for s (by standard w) ≡ grant (flat (rows_by standard s w))
+pub granted_rows : (standard : ℕ) (s : List ℕ) (w : Wanted) → Accepted s → study_fault (stations s) (by standard w) ≡ (Ok tt) → arranged_for s (by standard w) ≡ grant (flat (rows_by standard s w))
 unfolding arranged_for
 granted_rows standard s w e q = granted_on s (by standard w) (rows_for (asked w) w.first w.last) e q
 
 -- a channel that is clear by 1 is clear by 2
-clear_by_2 : (s : List ℕ) (w : Wanted) → Accepted s → study_fault (stations s) (by by_table_a w) ≡ Sound → (c : ℕ)
+clear_by_2 : (s : List ℕ) (w : Wanted) → Accepted s → study_fault (stations s) (by by_table_a w) ≡ (Ok tt) → (c : ℕ)
     → Clear (chosen by_table_a) (studied (terms_asked w) (stations s)) (asked w c) → Clear (chosen by_lesser) (studied (terms_asked w) (stations s)) (asked w c)
 clear_by_2 s w e q c f x m =
-    spaced_by_1 (asked w c) (as_it_stands x) (passed s (by by_table_a w) e q).placed.known (studied-known s (count s) e (terms_asked w) x m) (f x m)
+    spaced_by_1 (asked w c) (as_it_stands x) (passed s (by by_table_a w) q).0.known (studied-known s (count s) e (terms_asked w) x m) (f x m)
 
 -- a row that moves nobody by 1 stands by 2
-pub unmoved_by_2 : (s : List ℕ) (w : Wanted) → Accepted s → study_fault (stations s) (by by_table_a w) ≡ Sound → (c : ℕ) → row c 0 0 ∈ rows_by by_table_a s w → row c 0 0 ∈ rows_by by_lesser s w
+pub unmoved_by_2 : (s : List ℕ) (w : Wanted) → Accepted s → study_fault (stations s) (by by_table_a w) ≡ (Ok tt) → (c : ℕ) → row c 0 0 ∈ rows_by by_table_a s w → row c 0 0 ∈ rows_by by_lesser s w
 unfolding studied looked
 unmoved_by_2 s w e q c h = go (row c 0 0) refl ((arrangement_listed (chosen by_table_a) _ (asked w) w.first w.last (row c 0 0)).0 h)
   where

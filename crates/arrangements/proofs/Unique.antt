@@ -66,14 +66,13 @@ module _ (t : Scene) (c : ℕ) where
   by_mark v flags few (nobody f) right = sym (rows_free t.id flags c 0 refl) ∙ free-numbers f
   by_mark v flags few (lone a l f g) right =
       let e : suc a - 1 ≡ a = omega arith in
-      sym (rows_lone t.id flags c (suc a) (λ q. omega arith) (λ q. omega arith))
-      ∙ ap (λ (i : ℕ). move_rows flags (t.id i) c) e
+      sym (rows_lone t.id flags c (suc a) a refl (omega arith))
       ∙ move-numbers a f l flags (rw e at (right (omega arith, omega arith)))
-  by_mark v flags few (several a b l f g h) right = sym (rows_many t.id flags c many (λ q. omega arith) refl) ∙ two-numbers a f l b g h
+  by_mark v flags few (several a b l f g h) right = sym (rows_many t.id flags c many refl) ∙ two-numbers a f l b g h
 
 -- ---- one channel after the other
 
-pub rows_all : (t : Scene) (marks : List ℕ) (flags : List Bool) (channels : Channels) → t.size < many → Marked t.new channels.first channels.last t.size marks → Planned t channels.first (suc channels.last) flags
+pub rows_all : (t : Scene) (marks : List ℕ) (flags : List (List Bool)) (channels : Channels) → t.size < many → Marked t.new channels.first channels.last t.size marks → Planned t channels.first (suc channels.last) flags
     → all_rows t.id marks channels flags ≡ flat (arrangements t channels.first channels.last)
 unfolding arrangements
 rows_all t marks flags channels few w p =
@@ -91,12 +90,12 @@ module _ (s : List ℕ) (t : Terms) (p : Place) (channels : Channels) {marks : L
   unfolding scene
   as_new w = w
 
-  rows_placed : {flags : List Bool} → count s < many → Marked (scene_of s t p).new channels.first channels.last (count s) marks → Planned (scene_of s t p) channels.first (suc channels.last) flags
+  rows_placed : {flags : List (List Bool)} → count s < many → Marked (scene_of s t p).new channels.first channels.last (count s) marks → Planned (scene_of s t p) channels.first (suc channels.last) flags
       → all_rows (id_at s) marks channels flags ≡ flat (arrangements (scene_of s t p) channels.first channels.last)
   unfolding scene
   rows_placed {flags} few w q = rows_all (scene_of s t p) marks flags channels few w q
 
-  pub rows_of : {flags : List Bool} → Accepted s → Marked (scene_of s t p).new channels.first channels.last (count s) marks → Planned (scene_of s t p) channels.first (suc channels.last) flags
+  pub rows_of : {flags : List (List Bool)} → Accepted s → Marked (scene_of s t p).new channels.first channels.last (count s) marks → Planned (scene_of s t p) channels.first (suc channels.last) flags
       → all_rows (id_at s) marks channels flags ≡ rows_for (sited p) channels.first channels.last (chosen_for t) (studied t (stations s))
   unfolding studied
   rows_of e w q = rows_placed (omega (arith, few s e)) w q ∙ sym (ap flat (arrangements_at (chosen_for t) (looked t) s e (sited p) channels.first channels.last))

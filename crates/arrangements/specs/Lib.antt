@@ -1,4 +1,3 @@
 pub mod Arrange
 pub mod Placed
-pub mod Answering
 pub mod Meaning

@@ -6,25 +6,13 @@ ghost use Rattle.arrangements.specs.Arrange.{arranged_for};
 
 mod answering;
 
-use answering::list_asked;
-use desk::Answer;
-use stations::{Judged, Verdict};
+use refusals::Fault;
 use studies::Wanted;
 
 // Three numbers for each arrangement: the new channel, the id of the station that moves, its new channel.
-pub fn arrange(table: &[u8], wanted: Wanted, rows: &mut [u32]) -> Answer
+pub fn arrange(table: &[u8], wanted: Wanted, rows: &mut [u32]) -> Result<u32, Fault>
     ensures { Answered (arranged_for table.now wanted) rows.old rows.new result }
 {
-    let j = stations::judge(table);
-    let Judged::Table(_) = j else {
-        return desk::left(j);
-    };
-    let v = studies::fault_of(table, wanted);
-    if let Verdict::Faulty(f) = v {
-        return Answer::Refused(f);
-    }
-    let terms = studies::terms_asked(wanted);
-    let place = studies::place_asked(wanted);
-    let channels = studies::channels_asked(wanted);
-    list_asked(table, terms, place, channels, rows)
+    let study = studies::study(table, wanted)?;
+    answering::list_asked(&study, wanted.channels(), rows)
 }

@@ -1,4 +1,7 @@
 -- Every answer fits the buffer that a program lends for it, so that 22 cannot occur. Assumes nothing.
+use Rattle.refusals.specs.Faults.{Verdict, Answer}
+use Rattle.refusals.specs.declared.Fault.{Fault}
+use Rattle.std.specs.Prelude.{Ok, Err}
 use mathlib.Core.Path.{◌≡◌, refl, ap, ◌∙◌}
 use mathlib.Core.Bool.{Bool, true, false, cond, and-false}
 use mathlib.Core.List.{List, [], ◌∷◌, map, append-nil}
@@ -16,7 +19,6 @@ use Rattle.ground.proofs.Keeps.{length-keep}
 use Rattle.ground.proofs.Tests.{fails}
 use Rattle.ground.proofs.Spans.{length-span, keep_none}
 use Rattle.wire.specs.Be.{be}
-use Rattle.refusals.specs.declared.Refusal.{Refusal}
 use Rattle.part73.specs.Standards.{chosen}
 use Rattle.part73.specs.Channels.{lowest, highest, channel_count, new_channels}
 use Rattle.versions.specs.Version.{limit}
@@ -24,11 +26,7 @@ use Rattle.stations.specs.Image.{judged, station_at, stations, count, Accepted}
 use Rattle.stations.specs.Encode.{encode}
 use Rattle.stations.specs.Lists.{movable}
 use Rattle.stations.specs.declared.Station.{Station}
-use Rattle.stations.specs.declared.Judged.{Judged}
-use Rattle.stations.specs.declared.Judged.TheVariants.{Table, Refused as Refused'}
-use Rattle.stations.specs.declared.Verdict.{Verdict}
-use Rattle.stations.specs.declared.Verdict.TheVariants.{Sound, Faulty}
-use Rattle.stations.proofs.Table.{whole, length-stations}
+use Rattle.stations.proofs.Whole.{whole, length-stations}
 use Rattle.stations.proofs.Stages.{is_accepted}
 use Rattle.stations.proofs.Back.{length-encode}
 use Rattle.stations.proofs.Fine.{fine_at}
@@ -47,21 +45,21 @@ use Rattle.arrangements.specs.Arrange.{arranged as arranged', arrangements, rows
 use Rattle.arrangements.specs.Placed.{clear, moves_of, moves, arranged}
 use Rattle.arrangements.proofs.Movers.{Clear, clear_is, moves_of_lem}
 use Rattle.arrangements.proofs.Positions.{arranged_at}
-use Rattle.changes.specs.Changes.{Change, add, withdraw, move, Decision, allow, refuse, entered, decide, written, changed_for}
+use Rattle.changes.specs.Changes.{Change, add, withdraw, move, Decision, entered, decide, written, changed_for}
 use Rattle.stations.proofs.Changed.{length_insert, length_without, length-rechannel}
 use Rattle.changes.proofs.Grants.{added, withdrawn, moved}
 use Rattle.asking.specs.Asking.{ends_early, past, proposal_of, wanted_of, newcomer_of, check_input, arrange_input, add_input, withdraw_input, move_input, change_input}
 
 -- ---- the way to a granted answer
 
-pub never : (f : Refusal) (vs : List ℕ) → deny f ≡ grant vs → ⊥
+pub never : (f : Fault) (vs : List ℕ) → deny f ≡ grant vs → ⊥
 never f vs e = let z : ◌≡◌ {A = ℕ} 0 1 = cc in omega arith
 
-granted_by : (b : Bool) (j : Judged) (v : Verdict) (xs vs : List ℕ) → cond b ends_early (on_table j (on_asked v (grant xs))) ≡ grant vs → (n : ℕ) × (j ≡ Table n) × (xs ≡ vs)
+granted_by : (b : Bool) (j : Answer) (v : Verdict) (xs vs : List ℕ) → cond b ends_early (on_table j (on_asked v (grant xs))) ≡ grant vs → (n : ℕ) × (j ≡ Ok n) × (xs ≡ vs)
 granted_by true j v xs vs e = absurd (never _ vs e)
-granted_by false (Refused' f) v xs vs e = absurd (never f vs e)
-granted_by false (Table n) (Faulty f) xs vs e = absurd (never f vs e)
-granted_by false (Table n) Sound xs vs e = (n, refl, cc)
+granted_by false (Err f) v xs vs e = absurd (never f vs e)
+granted_by false (Ok n) (Err f) xs vs e = absurd (never f vs e)
+granted_by false (Ok n) (Ok tt) xs vs e = (n, refl, cc)
 
 granted_way : (k : ℕ) (input s : List ℕ) (w : Wanted) (numbers : (ℕ → ℕ → ℕ → ℕ) → List Station → List ℕ) (vs : List ℕ) → past k input (study s w numbers) ≡ grant vs → Accepted s × (numbers (chosen w.standard) (studied (terms_asked w) (stations s)) ≡ vs)
 unfolding past given study
@@ -173,7 +171,7 @@ arrange_fits channel t input vs e =
 
 -- ---- Add, Withdraw, Move: the image of no more stations than a table may have
 
-few_left : (ss : List Station) (c : Change) (rs : List Station) → length ss ≤ limit → decide ss c ≡ allow rs → length rs ≤ limit
+few_left : (ss : List Station) (c : Change) (rs : List Station) → length ss ≤ limit → decide ss c ≡ Ok rs → length rs ≤ limit
 few_left ss (add w) rs h e =
     let a = added ss w rs e in
     omega (arith, a.passes.room, ap length a.is, length_insert (entered w) ss)
@@ -189,14 +187,14 @@ unfolding changed_for
 changed_fits s c vs e = on (judged s) refl e
   where
     of : (d : Decision) → decide (stations s) c ≡ d → length (stations s) ≤ limit → written d ≡ grant vs → length vs ≤ 8 + 16 * limit
-    of (refuse f) q h w = absurd (never f vs w)
-    of (allow rs) q h w =
+    of (Err f) q h w = absurd (never f vs w)
+    of (Ok rs) q h w =
         let same : encode rs ≡ vs = cc in
         omega (arith, ap length same, length-encode rs, few_left (stations s) c rs h q)
 
-    on : (j : Judged) → judged s ≡ j → on_table j (written (decide (stations s) c)) ≡ grant vs → length vs ≤ 8 + 16 * limit
-    on (Refused' f) q w = absurd (never f vs w)
-    on (Table n) q w =
+    on : (j : Answer) → judged s ≡ j → on_table j (written (decide (stations s) c)) ≡ grant vs → length vs ≤ 8 + 16 * limit
+    on (Err f) q w = absurd (never f vs w)
+    on (Ok n) q w =
         let t = whole s n q in
         of (decide (stations s) c) refl (omega (arith, t.few, length-stations t)) w
 

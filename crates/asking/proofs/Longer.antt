@@ -1,5 +1,8 @@
 -- An input that is longer than any table and what stands before it is answered as its first bytes are: as its first 65,536, or
 -- a few less where a letter and terms stand before it. Assumes nothing.
+use Rattle.refusals.specs.Faults.{Answer}
+use Rattle.refusals.specs.declared.Fault.{Fault}
+use Rattle.std.specs.Prelude.{Err}
 use mathlib.Core.Path.{◌≡◌, sym, ap, ◌∙◌}
 use mathlib.Core.List.{List}
 use Prim.Native.Nat.{ℕ, ◌+◌, ◌≤◌, ◌<◌}
@@ -10,12 +13,9 @@ use lib.Seq.{take_all, length-take-le, get_or-take, get_or-drop}
 use borrow.Author.Tests.{le-ltb, ne_eqb}
 use Rattle.ground.specs.Guard.{given}
 use Rattle.wire.proofs.Alike.{Alike, be_alike}
-use Rattle.refusals.specs.declared.Refusal.{Refusal}
 use Rattle.versions.proofs.Versions.{limit_small}
 use Rattle.stations.specs.Image.{judged}
 use Rattle.stations.proofs.Longer.{refused_alike}
-use Rattle.stations.specs.declared.Judged.{Judged}
-use Rattle.stations.specs.declared.Judged.TheVariants.{Refused}
 use Rattle.desk.specs.Answers.{Outcome, deny, on_table}
 use Rattle.survey.specs.declared.Terms.{Terms}
 use Rattle.studies.specs.Studies.{study}
@@ -33,7 +33,7 @@ most = 65536
 abbrev pub enough : ℕ
 enough = 65500
 
-refused : (k : ℕ) (input : List ℕ) → k ≤ length input → (j : Judged) (f : Refusal) → j ≡ Refused f → (o : Outcome) → past k input (on_table j o) ≡ deny f
+refused : (k : ℕ) (input : List ℕ) → k ≤ length input → (j : Answer) (f : Fault) → j ≡ Err f → (o : Outcome) → past k input (on_table j o) ≡ deny f
 unfolding past given
 refused k input h j f e o = rw (le-ltb (length input) k h, e)
 

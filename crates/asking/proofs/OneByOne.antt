@@ -1,5 +1,7 @@
 -- The new channels, asked for in one range or another: what is refused for one is refused for all, and what is granted are the
 -- rows of each. Assumes nothing.
+use Rattle.refusals.specs.Faults.{Verdict, Answer}
+use Rattle.std.specs.Prelude.{Ok, Err}
 use mathlib.Core.Path.{◌≡◌, refl}
 use mathlib.Core.Bool.{Bool, true, false, cond}
 use mathlib.Core.List.{List}
@@ -11,10 +13,6 @@ use borrow.Author.Tests.{le-ltb}
 use Rattle.ground.specs.Guard.{given}
 use Rattle.part73.specs.Channels.{lowest, highest}
 use Rattle.stations.specs.Image.{then, stations, judged}
-use Rattle.stations.specs.declared.Judged.{Judged}
-use Rattle.stations.specs.declared.Judged.TheVariants.{Table, Refused as Refused'}
-use Rattle.stations.specs.declared.Verdict.{Verdict}
-use Rattle.stations.specs.declared.Verdict.TheVariants.{Sound, Faulty}
 use Rattle.survey.specs.Ways.{studied, chosen_for}
 use Rattle.marking.specs.Marks.{Asked}
 use Rattle.marking.specs.declared.Channels.{Channels}
@@ -46,11 +44,11 @@ abbrev pub regrant : List ℕ → Outcome → Outcome
 regrant vs (grant ws) = grant vs
 regrant vs (deny f) = deny f
 
-by_stage : (b : Bool) (j : Judged) (v : Verdict) (xs ys : List ℕ) → cond b ends_early (on_table j (on_asked v (grant ys))) ≡ regrant ys (cond b ends_early (on_table j (on_asked v (grant xs))))
+by_stage : (b : Bool) (j : Answer) (v : Verdict) (xs ys : List ℕ) → cond b ends_early (on_table j (on_asked v (grant ys))) ≡ regrant ys (cond b ends_early (on_table j (on_asked v (grant xs))))
 by_stage true j v xs ys = refl
-by_stage false (Refused' f) v xs ys = refl
-by_stage false (Table n) (Faulty f) xs ys = refl
-by_stage false (Table n) Sound xs ys = refl
+by_stage false (Err f) v xs ys = refl
+by_stage false (Ok n) (Err f) xs ys = refl
+by_stage false (Ok n) (Ok tt) xs ys = refl
 
 pub alike : {c d : Channels} → Asked c → Asked d → (t : Terms) (input : List ℕ) → arrange_input d.first d.last t input ≡ regrant (rows_of t input d.first d.last) (arrange_input c.first c.last t input)
 unfolding arrange_input arranged_for study study_fault wanted_fault past given rows_of

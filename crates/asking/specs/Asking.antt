@@ -1,17 +1,16 @@
 -- 01, The programs; 02, R-1, R-2, R-6: the question that a program's whole input puts. First what is proposed, big-endian, then the
 -- table. Assumes nothing.
-use Rattle.std.specs.Prelude.{not, List, ℕ, ◌+◌, ltb, eqb, ℤ, length, drop}
+use Rattle.std.specs.Prelude.{not, List, ℕ, ◌+◌, ltb, eqb, ℤ, length, drop, Err}
 use Rattle.std.specs.Int.{w32}
 use Rattle.std.proofs.Common.{to_z}
 use Rattle.ground.specs.Guard.{given}
 use Rattle.wire.specs.Be.{be}
 use Rattle.part73.specs.Standards.{by_table_a}
-use Rattle.refusals.specs.Faults.{refusal, UnderEightBytes}
+use Rattle.refusals.specs.Faults.{Answer}
+use Rattle.refusals.specs.declared.Fault.TheVariants.{UnderEightBytes}
 use Rattle.survey.specs.declared.Terms.{Terms}
 use Rattle.desk.specs.Answers.{Outcome, deny}
 use Rattle.desk.specs.Questions.{distance_of}
-use Rattle.desk.specs.declared.Answer.{Answer}
-use Rattle.desk.specs.declared.Answer.TheVariants.{Refused}
 use Rattle.checks.specs.declared.Proposal.{Proposal}
 use Rattle.checks.specs.Check.{checked_for}
 use Rattle.reasons.specs.Reason.{reasoned_for}
@@ -27,7 +26,7 @@ signed s at = to_z w32 (be 4 s at)
 
 -- input that ends before the table is refused as a table under 8 bytes, whatever the proposal holds
 abbrev pub ends_early : Outcome
-ends_early = deny (refusal UnderEightBytes)
+ends_early = deny UnderEightBytes
 
 -- the question that is put where the input goes past its first k bytes
 unfoldable pub past : ℕ → List ℕ → Outcome → Outcome
@@ -99,6 +98,6 @@ change_input input =
 -- that ends early
 unfoldable pub distance_input : List ℕ → Answer
 distance_input input =
-    given (not (eqb (length input) 17)) (Refused (refusal UnderEightBytes))
-    (given (not (eqb (be 1 input 0) 100)) (Refused (refusal UnderEightBytes))
+    given (not (eqb (length input) 17)) (Err UnderEightBytes)
+    (given (not (eqb (be 1 input 0) 100)) (Err UnderEightBytes)
     (distance_of (signed input 1) (signed input 5) (signed input 9) (signed input 13)))

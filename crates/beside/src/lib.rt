@@ -2,13 +2,8 @@
 #![tactic(auto)]
 
 mod comparing;
+mod implementation;
 mod lesser;
-mod limits;
-mod question;
 
-pub use comparing::{
-    IMAGE_ROOM, compare, compare_all_rows, compare_number, compare_one_place, compare_one_row,
-    compare_reason,
-};
-pub use limits::same_limit;
-pub use question::{first_rows, second_number, second_reason, second_rows};
+pub use comparing::{Images, NUMBERS, compare, compare_number, compare_reason, compare_rows};
+pub use implementation::{First, Implementation, Second};

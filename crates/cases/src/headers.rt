@@ -1,43 +1,37 @@
 // Headers without a record, with what read answers to them.
-use super::given::REFUSED;
+use super::given::Answer::{Number, Refused};
+use super::given::{Answer, Given};
+use super::question::Kind;
+use super::scene::{Header, Scene};
 use scenes::{LIMIT, LINE};
 
-// A header, and the answer of read.
-#[derive(Clone, Copy)]
-pub(crate) struct Header {
-    pub(crate) version: u32,
-    pub(crate) sixth: u32,
-    pub(crate) count: u32,
-    pub(crate) answer: u64,
-}
-
-// Such a header.
-fn lone(version: u32, sixth: u32, count: u32, answer: u64) -> Header {
-    Header {
+// Such a header, and the answer.
+fn lone(version: u32, sixth: u32, count: u32, answer: Answer) -> Given {
+    let header = Header {
         version,
         sixth,
         count,
-        answer,
-    }
+    };
+    Scene::Lone(header).asked(Kind::Read, 0, 0, 0, answer)
 }
 
-// The headers in a row, numbered as the cases of `given_case`: on both sides of each end of a version's range, where a count that is
-// neither 0 nor outside is refused for the length; of no version; and with a sixth byte that is not 0.
-pub(crate) fn header_of(k: u32) -> Header {
-    match k {
-        35 => lone(1, 0, 0, 0),
-        36 => lone(1, 0, LINE, 6 * REFUSED),
-        37 => lone(1, 0, LINE + 1, 5 * REFUSED),
-        38 => lone(1, 0, LIMIT, 5 * REFUSED),
-        39 => lone(2, 0, 0, 5 * REFUSED),
-        40 => lone(2, 0, LINE, 5 * REFUSED),
-        41 => lone(2, 0, LINE + 1, 6 * REFUSED),
-        42 => lone(2, 0, LIMIT, 6 * REFUSED),
-        43 => lone(2, 0, LIMIT + 1, 5 * REFUSED),
-        44 => lone(0, 0, 0, 3 * REFUSED),
-        45 => lone(3, 0, LINE + 1, 3 * REFUSED),
-        46 => lone(258, 0, LINE + 1, 3 * REFUSED),
-        47 => lone(2, 1, 0, 4 * REFUSED),
-        _ => lone(3, 1, LIMIT + 1, 3 * REFUSED),
-    }
+// On both sides of each end of a version's range, where a count that is neither 0 nor outside is refused for the length; of no
+// version; and with a sixth byte that is not 0.
+pub fn lone_headers() -> [Given; 14] {
+    [
+        lone(1, 0, 0, Number(0)),
+        lone(1, 0, LINE, Refused(6, 0)),
+        lone(1, 0, LINE + 1, Refused(5, 0)),
+        lone(1, 0, LIMIT, Refused(5, 0)),
+        lone(2, 0, 0, Refused(5, 0)),
+        lone(2, 0, LINE, Refused(5, 0)),
+        lone(2, 0, LINE + 1, Refused(6, 0)),
+        lone(2, 0, LIMIT, Refused(6, 0)),
+        lone(2, 0, LIMIT + 1, Refused(5, 0)),
+        lone(0, 0, 0, Refused(3, 0)),
+        lone(3, 0, LINE + 1, Refused(3, 0)),
+        lone(258, 0, LINE + 1, Refused(3, 0)),
+        lone(2, 1, 0, Refused(4, 0)),
+        lone(3, 1, LIMIT + 1, Refused(3, 0)),
+    ]
 }

@@ -1,6 +1,7 @@
 // The paper's questions and those with given answers, made questions, and the runs of made cases.
 #![tactic(auto)]
 
+mod aside;
 mod asking;
 mod chosen;
 mod given;
@@ -9,12 +10,18 @@ mod meridian;
 mod paper;
 mod question;
 mod runs;
+mod scene;
 mod sides;
 mod twice;
 
-pub use asking::{first_id, made_question};
-pub use given::{GIVEN, GIVEN_BYTES, UNTOLD, given_case, put_given_table};
-pub use paper::{paper_channel, paper_class, paper_question, paper_separation, put_seven};
-pub use question::{ADD, ARRANGE, CHECK, DISTANCE, MOVE, Question, READ, REASON, WITHDRAW};
-pub use runs::{RUNS, Run, case_table, kind_of, records_of, run_of};
-pub use sides::{SIDES, side_class, side_question};
+pub use aside::{among_equals, faulty_aside, reasons_aside, rows_aside};
+pub use chosen::{lesser_columns, no_standards, odd_entries};
+pub use given::{Answer, Given, UNTOLD};
+pub use headers::lone_headers;
+pub use meridian::{distances_across, studies_across};
+pub use paper::{CHANNELS, Separation, paper_question, put_seven, separations};
+pub use question::{Kind, Question};
+pub use runs::{Run, made_runs};
+pub use scene::{GIVEN_BYTES, Header, Scene};
+pub use sides::Side;
+pub use twice::entered_twice;

@@ -1,33 +1,30 @@
 // A question with its numbers.
-pub const READ: u32 = 0;
+use scenes::Site;
 
-pub const DISTANCE: u32 = 1;
-
-pub const ADD: u32 = 2;
-
-pub const WITHDRAW: u32 = 3;
-
-pub const MOVE: u32 = 4;
-
-pub const CHECK: u32 = 5;
-
-pub const ARRANGE: u32 = 6;
-
-pub const REASON: u32 = 7;
+// Which question.
+#[derive(Clone, Copy, Debug, PartialEq, Eq)]
+pub enum Kind {
+    Read,
+    Distance,
+    Add,
+    Withdraw,
+    Move,
+    Check,
+    Arrange,
+    Reason,
+}
 
 // What is asked: which question, and the numbers of all questions; check, arrange and reason leave the id aside and go by the
-// standard; coordinates are words.
+// standard. The numbers are the words of the C interface: a question may have a class, a zone or a standard that is none.
 #[derive(Clone, Copy)]
 pub struct Question {
-    pub kind: u32,
+    pub kind: Kind,
     pub id: u32,
     pub standard: u32,
     pub channel: u32,
     pub last: u32,
     pub class: u32,
     pub zone: u32,
-    pub lat: u32,
-    pub lon: u32,
-    pub lat2: u32,
-    pub lon2: u32,
+    pub site: Site,
+    pub other: Site,
 }

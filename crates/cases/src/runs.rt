@@ -1,270 +1,172 @@
 // The runs of made cases.
-ghost use Rattle.std.specs.Prelude.{◌≤◌};
+ghost use Rattle.std.specs.Prelude.{◌≡◌, ◌+◌, ◌≤◌, ◌↔◌, IsTrue};
+ghost use Rattle.scenes.specs.declared.styles.Style.TheVariants.{Repeating};
 ghost use Rattle.scenes.specs.Sizes.{most_records, room};
 
-use super::question::{ADD, ARRANGE, CHECK, DISTANCE, MOVE, Question, READ, REASON, WITHDRAW};
-use scenes::{
-    ASTRIDE, AT_LIMITS, CROWDED, EQUALS, LIMIT, LINE, LOW, MOST, REPEATING, Record, SCATTERED,
-    Site, below, damaged, made_table, repeat_some,
-};
+use super::asking::{Ids, made_question, one_of};
+use super::question::{Kind, Question};
+use scenes::{Chance, LIMIT, LINE, Record, Style, damaged, made_table, repeat_some};
 
-// Asked in a run in place of one question: every question on a table but arrange.
-const ALL_BUT_ARRANGE: u32 = 8;
+// What a run asks: one question; every question on a table, with arrange or without; or move or withdraw, of a station that mostly
+// is there.
+#[derive(Clone, Copy)]
+enum Asked {
+    One(Kind),
+    All,
+    AllButArrange,
+    MoveOrWithdraw,
+}
 
-// Asked in a run in place of one question: every question on a table.
-const ALL: u32 = 9;
+impl Asked {
+    // The question of a case.
+    fn kind(self, chance: &mut Chance) -> Kind {
+        let on_table = [
+            Kind::Check,
+            Kind::Add,
+            Kind::Move,
+            Kind::Withdraw,
+            Kind::Read,
+            Kind::Reason,
+            Kind::Arrange,
+        ];
+        match self {
+            Asked::One(kind) => kind,
+            Asked::All => one_of(chance, &on_table),
+            Asked::AllButArrange => one_of(chance, &on_table[..6]),
+            Asked::MoveOrWithdraw => one_of(chance, &on_table[2..4]),
+        }
+    }
+}
 
-// Asked in a run in place of one question: move or withdraw, of a station that mostly is there.
-const MOVE_OR_WITHDRAW: u32 = 10;
-
-// How many runs there are.
-pub const RUNS: u32 = 26;
-
-// A run: how many cases, which question, at least how many records and how many more, their style, damaged or not.
+// A run: how many cases, which question, at least and at most how many records, their style, damaged or not.
 #[derive(Clone, Copy)]
 pub struct Run {
     pub cases: u32,
-    pub question: u32,
-    pub fewest: u32,
-    pub more: u32,
-    pub style: u32,
-    pub damage: bool,
+    asked: Asked,
+    fewest: u32,
+    most: u32,
+    pub style: Style,
+    damage: bool,
+    ghost few: { (fewest ≤ most) × (most ≤ most_records) },
 }
 
-// A run on tables of so many records, one less, and one or two more.
-fn around(size: u32, cases: u32, question: u32, style: u32, damage: bool) -> Run
-    requires { 1 ≤ size }
+// A run on tables of so many records to so many.
+fn between(fewest: u32, most: u32, cases: u32, asked: Asked, style: Style) -> Run
+    requires { (fewest ≤ most) × (most ≤ most_records) }
 {
     Run {
         cases,
-        question,
-        fewest: size - 1,
-        more: 3,
+        asked,
+        fewest,
+        most,
         style,
-        damage,
+        damage: false,
     }
+}
+
+// A run on tables of so many records, one less, and one or two more.
+fn around(size: u32, cases: u32, asked: Asked, style: Style) -> Run
+    requires { (1 ≤ size) × (size + 2 ≤ most_records) }
+{
+    between(size - 1, size + 2, cases, asked, style)
 }
 
 // The runs in a row.
-pub fn run_of(k: u32) -> Run {
-    match k {
+pub fn made_runs() -> [Run; 26] {
+    [
         // Distances at the limits, at the ends of the ranges, and out of range.
-        0 => Run {
-            cases: 26_000,
-            question: DISTANCE,
-            fewest: 0,
-            more: 0,
-            style: AT_LIMITS,
-            damage: false,
-        },
+        between(0, 0, 26_000, Asked::One(Kind::Distance), Style::AtLimits),
         // Small tables at the limits.
-        1 => Run {
-            cases: 40_000,
-            question: ALL_BUT_ARRANGE,
-            fewest: 0,
-            more: 12,
-            style: AT_LIMITS,
-            damage: false,
-        },
+        between(0, 12, 40_000, Asked::AllButArrange, Style::AtLimits),
         // Small tables, damaged.
-        2 => Run {
-            cases: 23_000,
-            question: ALL,
-            fewest: 0,
-            more: 4,
-            style: AT_LIMITS,
-            damage: true,
-        },
+        between(0, 4, 23_000, Asked::All, Style::AtLimits).damaged(),
         // Arrangements at the limits.
-        3 => Run {
-            cases: 5_000,
-            question: ARRANGE,
-            fewest: 0,
-            more: 6,
-            style: AT_LIMITS,
-            damage: false,
-        },
+        between(0, 6, 5_000, Asked::One(Kind::Arrange), Style::AtLimits),
         // Arrangements beside more stations.
-        4 => Run {
-            cases: 400,
-            question: ARRANGE,
-            fewest: 7,
-            more: 25,
-            style: SCATTERED,
-            damage: false,
-        },
+        between(7, 32, 400, Asked::One(Kind::Arrange), Style::Scattered),
         // Large tables.
-        5 => Run {
-            cases: 300,
-            question: ALL_BUT_ARRANGE,
-            fewest: 100,
-            more: LIMIT - 100,
-            style: SCATTERED,
-            damage: false,
-        },
+        between(100, LIMIT, 300, Asked::AllButArrange, Style::Scattered),
         // Large tables, damaged.
-        6 => Run {
-            cases: 200,
-            question: ALL_BUT_ARRANGE,
-            fewest: 100,
-            more: LIMIT - 100,
-            style: SCATTERED,
-            damage: true,
-        },
+        between(100, LIMIT, 200, Asked::AllButArrange, Style::Scattered).damaged(),
         // Around the line between the versions: all questions, damaged tables, arrangements, and more of the changes.
-        7 => around(LINE, 300, ALL_BUT_ARRANGE, SCATTERED, false),
-        8 => around(LINE, 200, ALL, SCATTERED, true),
-        9 => around(LINE, 12, ARRANGE, AT_LIMITS, false),
-        10 => around(LINE, 200, ADD, LOW, false),
-        11 => around(LINE, 300, MOVE_OR_WITHDRAW, SCATTERED, false),
+        around(LINE, 300, Asked::AllButArrange, Style::Scattered),
+        around(LINE, 200, Asked::All, Style::Scattered).damaged(),
+        around(LINE, 12, Asked::One(Kind::Arrange), Style::AtLimits),
+        around(LINE, 200, Asked::One(Kind::Add), Style::Low),
+        around(LINE, 300, Asked::MoveOrWithdraw, Style::Scattered),
         // The same around the limit, and stations that are all short.
-        12 => around(LIMIT, 360, ALL_BUT_ARRANGE, SCATTERED, false),
-        13 => around(LIMIT, 200, ALL, SCATTERED, true),
-        14 => around(LIMIT, 24, ARRANGE, AT_LIMITS, false),
-        15 => around(LIMIT, 240, ADD, LOW, false),
-        16 => around(LIMIT, 150, MOVE_OR_WITHDRAW, SCATTERED, false),
-        17 => around(LIMIT, 50, CHECK, CROWDED, false),
+        around(LIMIT, 360, Asked::AllButArrange, Style::Scattered),
+        around(LIMIT, 200, Asked::All, Style::Scattered).damaged(),
+        around(LIMIT, 24, Asked::One(Kind::Arrange), Style::AtLimits),
+        around(LIMIT, 240, Asked::One(Kind::Add), Style::Low),
+        around(LIMIT, 150, Asked::MoveOrWithdraw, Style::Scattered),
+        around(LIMIT, 50, Asked::One(Kind::Check), Style::Crowded),
         // Reasons among equals.
-        18 => Run {
-            cases: 8_000,
-            question: REASON,
-            fewest: 0,
-            more: 16,
-            style: EQUALS,
-            damage: false,
-        },
+        between(0, 16, 8_000, Asked::One(Kind::Reason), Style::Equals),
         // Reasons in damaged tables.
-        19 => Run {
-            cases: 3_000,
-            question: REASON,
-            fewest: 0,
-            more: 4,
-            style: EQUALS,
-            damage: true,
-        },
+        between(0, 4, 3_000, Asked::One(Kind::Reason), Style::Equals).damaged(),
         // Reasons in large tables.
-        20 => Run {
-            cases: 60,
-            question: REASON,
-            fewest: 100,
-            more: LIMIT - 100,
-            style: EQUALS,
-            damage: false,
-        },
+        between(100, LIMIT, 60, Asked::One(Kind::Reason), Style::Equals),
         // Distances across the 180th meridian.
-        21 => Run {
-            cases: 5_000,
-            question: DISTANCE,
-            fewest: 0,
-            more: 0,
-            style: ASTRIDE,
-            damage: false,
-        },
+        between(0, 0, 5_000, Asked::One(Kind::Distance), Style::Astride),
         // All questions across the 180th meridian.
-        22 => Run {
-            cases: 7_000,
-            question: ALL,
-            fewest: 0,
-            more: 8,
-            style: ASTRIDE,
-            damage: false,
-        },
+        between(0, 8, 7_000, Asked::All, Style::Astride),
         // Tables in which records repeat others; the same, damaged; and large ones.
-        23 => Run {
-            cases: 12_000,
-            question: ALL,
-            fewest: 1,
-            more: 10,
-            style: REPEATING,
-            damage: false,
-        },
-        24 => Run {
-            cases: 6_000,
-            question: ALL,
-            fewest: 1,
-            more: 5,
-            style: REPEATING,
-            damage: true,
-        },
-        _ => around(LIMIT, 60, ALL_BUT_ARRANGE, REPEATING, false),
-    }
+        between(1, 11, 12_000, Asked::All, Style::Repeating),
+        between(1, 6, 6_000, Asked::All, Style::Repeating).damaged(),
+        around(LIMIT, 60, Asked::AllButArrange, Style::Repeating),
+    ]
 }
 
-// The questions on a table in a row.
-fn on_table(k: u32) -> u32 {
-    match k {
-        0 => CHECK,
-        1 => ADD,
-        2 => MOVE,
-        3 => WITHDRAW,
-        4 => READ,
-        5 => REASON,
-        _ => ARRANGE,
+impl Run {
+    // The same on damaged tables.
+    fn damaged(mut self) -> Run {
+        self.damage = true;
+        self
     }
-}
 
-// The question of a case.
-pub fn kind_of(state: &mut u64, question: u32) -> u32 {
-    match question {
-        ALL_BUT_ARRANGE => on_table(below(state, 6)),
-        ALL => on_table(below(state, 7)),
-        MOVE_OR_WITHDRAW => on_table(2 + below(state, 2)),
-        _ => question,
+    // Whether records repeat others in its tables.
+    pub fn repeats(&self) -> bool
+        ensures { IsTrue result ↔ (self.now.style ≡ Repeating) }
+    {
+        self.style == Style::Repeating
     }
-}
 
-// How many records the table of a case has.
-pub fn records_of(state: &mut u64, run: Run) -> u32
-    ensures { result ≤ most_records }
-{
-    let n = std::num::wrapping_add_u32(run.fewest, below(state, run.more % MOST + 1));
-    n % (MOST + 1)
-}
-
-// What is asked, as the record that a made table starts from.
-fn asked_record(q: Question) -> Record {
-    Record {
-        id: q.id,
-        channel: q.channel,
-        class: q.class,
-        flags: 0,
-        site: Site {
-            lat: q.lat,
-            lon: q.lon,
-        },
+    // Writes the table of a question, and gives its length.
+    fn put_table(self, chance: &mut Chance, q: Question, ids: Ids, table: &mut [u8]) -> usize
+        ensures { result ≤ room }
+    {
+        let style = match self.style {
+            Style::Astride | Style::Repeating => Style::any(chance),
+            style => style,
+        };
+        let asked = Record {
+            id: q.id,
+            channel: q.channel,
+            class: q.class,
+            flags: 0,
+            site: q.site,
+        };
+        let length = made_table(chance, asked, ids.first, ids.count as usize, style, table);
+        if self.repeats() {
+            repeat_some(chance, table, ids.count);
+        }
+        if self.damage {
+            damaged(chance, table, ids.count, length)
+        } else {
+            length
+        }
     }
-}
 
-// Makes records of a table of n repeat others where a run is for that.
-fn repeat_in(state: &mut u64, run: Run, n: u32, table: &mut [u8])
-    requires { n ≤ most_records }
-{
-    if run.style == REPEATING {
-        repeat_some(state, table, n);
+    // Makes a question and its table, and gives it with the table's length.
+    pub fn made_case(self, chance: &mut Chance, table: &mut [u8]) -> (Question, usize)
+        ensures { result.1 ≤ room }
+    {
+        let kind = self.asked.kind(chance);
+        let count = self.fewest + chance.below(self.most - self.fewest + 1);
+        let ids = Ids::drawn(chance, count);
+        let q = made_question(chance, kind, self.style, ids);
+        let length = self.put_table(chance, q, ids, table);
+        (q, length)
     }
-}
-
-// Writes the table of a case, and gives its length.
-pub fn case_table(
-    state: &mut u64,
-    run: Run,
-    q: Question,
-    id: u32,
-    n: u32,
-    table: &mut [u8],
-) -> usize
-    requires { n ≤ most_records }
-    ensures { result ≤ room }
-{
-    let style = if run.style < ASTRIDE {
-        run.style
-    } else {
-        below(state, ASTRIDE)
-    };
-    let length = made_table(state, asked_record(q), id, n as usize, style, table);
-    repeat_in(state, run, n, table);
-    if run.damage {
-        return damaged(state, table, n, length);
-    }
-    length
 }

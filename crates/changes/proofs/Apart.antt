@@ -1,5 +1,7 @@
 -- Past the other refusals Add and Move are granted exactly when the station is short to no other record; 20 gives the first
 -- that it is short to. Assumes nothing.
+
+use Rattle.std.specs.Prelude.{Ok, Err}
 use mathlib.Core.Path.{◌≡◌, sym, ◌∙◌}
 use mathlib.Core.Bool.{true, false, not}
 use mathlib.Core.Logic.{◌↔◌}
@@ -18,18 +20,18 @@ use Rattle.ground.proofs.Guards.{guards, past, taken, and_was}
 use Rattle.ground.proofs.Cases.{either}
 use Rattle.ground.proofs.Positions.{none_in}
 use Rattle.ground.proofs.Firsts.{first_found, first_past, some_first}
-use Rattle.refusals.specs.declared.Refusal.{Refusal}
-use Rattle.refusals.specs.Faults.{Fault, refusal, AskedChannel, IdZero, IdPresent, Short, TableFull, IdAbsent, NotMovable}
+use Rattle.refusals.specs.Faults.{refusal, Verdict}
+use Rattle.refusals.specs.declared.Fault.{Fault}
+use Rattle.refusals.specs.declared.Fault.TheVariants.{AskedChannel, IdZero, IdPresent, Short, TableFull, IdAbsent, NotMovable}
 use Rattle.versions.specs.Version.{limit}
 use Rattle.stations.specs.Lists.{has_id, onto, insert, without, rechannel, Apart}
 use Rattle.stations.specs.declared.Station.{Station}
-use Rattle.stations.specs.declared.Verdict.{Verdict}
 use Rattle.stations.proofs.Ids.{Ascends, with_one, with_found, one_id}
 use Rattle.stations.proofs.Found.{Found, sound, fault}
 use Rattle.stations.proofs.Changed.{without_none, in_without}
 use Rattle.desk.proofs.Asked.{found-asked}
 use Rattle.finding.specs.Conflicts.{short_to, conflicts}
-use Rattle.changes.specs.Changes.{add, move, Decision, allow, refuse, not_for, on_verdict, entered, decide}
+use Rattle.changes.specs.Changes.{add, move, Decision, on_verdict, entered, decide}
 use Rattle.changes.specs.declared.Newcomer.{Newcomer}
 use Rattle.changes.proofs.Grants.{denied, AddPasses, added, MovePasses, moved}
 
@@ -69,7 +71,7 @@ clear-new r ss n = rw (without_none r.id ss n) at (clear_others r ss)
 
 -- ---- granted exactly when there is none
 
-pub add_exactly : (ss : List Station) (w : Newcomer) → AddPasses ss w → (decide ss (add w) ≡ allow (insert (entered w) ss)) ↔ Apart short_to (entered w) ss
+pub add_exactly : (ss : List Station) (w : Newcomer) → AddPasses ss w → (decide ss (add w) ≡ Ok (insert (entered w) ss)) ↔ Apart short_to (entered w) ss
 unfolding decide
 add_exactly ss w p =
     let k = clear-new (entered w) ss p.new in
@@ -81,14 +83,14 @@ add_exactly ss w p =
     )
 
 -- a granted newcomer is apart from every record
-pub add_apart : (ss : List Station) (w : Newcomer) (rs : List Station) → decide ss (add w) ≡ allow rs → Apart short_to (entered w) ss
+pub add_apart : (ss : List Station) (w : Newcomer) (rs : List Station) → decide ss (add w) ≡ Ok rs → Apart short_to (entered w) ss
 add_apart ss w rs e = let a = added ss w rs e in (clear-new (entered w) ss a.passes.new).0 a.clear
 
 module _ (ss : List Station) (g : Ascends ss) (id channel : ℕ) where
   clear-moved : (x : Station) → x.id ≡ id → (some (conflicts (onto channel x)) ss ≡ false) ↔ Apart short_to (onto channel x) (without id ss)
   clear-moved x own = rw (← own) (clear_others (onto channel x) ss)
 
-  move-granted : (x : Station) → MovePasses ss id channel x → some (conflicts (onto channel x)) ss ≡ false → decide ss (move id channel) ≡ allow (rechannel id channel ss)
+  move-granted : (x : Station) → MovePasses ss id channel x → some (conflicts (onto channel x)) ss ≡ false → decide ss (move id channel) ≡ Ok (rechannel id channel ss)
   unfolding decide
   move-granted x p clear =
       let low = p.low in
@@ -97,10 +99,10 @@ module _ (ss : List Station) (g : Ascends ss) (id channel : ℕ) where
       rw (with_one id _ _ x ss g p.own p.held) (sym (search guards depth 12))
 
   -- a granted station is apart from every other record
-  pub move-apart : (rs : List Station) → decide ss (move id channel) ≡ allow rs → (x : Station) × MovePasses ss id channel x × Apart short_to (onto channel x) (without id ss)
+  pub move-apart : (rs : List Station) → decide ss (move id channel) ≡ Ok rs → (x : Station) × MovePasses ss id channel x × Apart short_to (onto channel x) (without id ss)
   move-apart rs e = let a = moved ss id channel rs e in (a.from, a.passes, (clear-moved a.from a.passes.own).0 a.clear)
 
-  pub move_exactly : (x : Station) → MovePasses ss id channel x → (decide ss (move id channel) ≡ allow (rechannel id channel ss)) ↔ Apart short_to (onto channel x) (without id ss)
+  pub move_exactly : (x : Station) → MovePasses ss id channel x → (decide ss (move id channel) ≡ Ok (rechannel id channel ss)) ↔ Apart short_to (onto channel x) (without id ss)
   move_exactly x p =
       let k = clear-moved x p.own in (
         λ e.
@@ -138,42 +140,42 @@ first_short r ss i h e =
       before = λ j y rest m d ne. sym (conflicts_other r y ne) ∙ first_past (conflicts r) ss j y rest d m;
     })
 
-numbers : {f g : Refusal} → refuse f ≡ refuse g → f.number ≡ g.number
+numbers : {f g : Fault} → ◌≡◌ {A = Decision} (Err f) (Err g) → (refusal f).number ≡ (refusal g).number
 numbers e = cc
 
-extras : {f g : Refusal} → refuse f ≡ refuse g → f.extra ≡ g.extra
+extras : {f g : Fault} → ◌≡◌ {A = Decision} (Err f) (Err g) → (refusal f).extra ≡ (refusal g).extra
 extras e = cc
 
-granted : (rs : List Station) (f : Refusal) → allow rs ≡ refuse f → ⊥
+granted : (rs : List Station) (f : Fault) → ◌≡◌ {A = Decision} (Ok rs) (Err f) → ⊥
 granted rs f e = denied f rs (sym e)
 
 -- what is asked for is refused with a lower number
-passed-low : {n : ℕ} {v : Verdict} (d : Decision) (f : Refusal) → Found n v → n ≤ f.number → on_verdict v d ≡ refuse f → d ≡ refuse f
+passed-low : {n : ℕ} {v : Verdict} (d : Decision) (f : Fault) → Found n v → n ≤ (refusal f).number → on_verdict v d ≡ Err f → d ≡ Err f
 passed-low d f sound h e = e
 passed-low d f (fault g l) h e = absurd (omega (arith, numbers e))
 
 -- two refusals with other numbers
-unlike : (f g : Fault) → ((refusal f).number ≡ (refusal g).number → ⊥) → not_for f ≡ not_for g → ⊥
+unlike : (f g : Fault) → ((refusal f).number ≡ (refusal g).number → ⊥) → ◌≡◌ {A = Decision} (Err f) (Err g) → ⊥
 unlike f g ne e = ne (numbers e)
 
 -- 20 of Add
-pub add-short : (ss : List Station) (w : Newcomer) (i : ℕ) → decide ss (add w) ≡ not_for (Short i) → FirstShort (entered w) ss i
+pub add-short : (ss : List Station) (w : Newcomer) (i : ℕ) → decide ss (add w) ≡ Err (Short i) → FirstShort (entered w) ss i
 unfolding decide
 add-short ss w i e =
-    let v = passed-low _ (refusal (Short i)) (found-asked 18 (omega arith) _ _ _ _ _ _) (omega arith) e in
+    let v = passed-low _ (Short i) (found-asked 18 (omega arith) _ _ _ _ _ _) (omega arith) e in
     let a = past _ _ _ _ v (unlike IdZero (Short i) (λ z. omega arith)) in
     let b = past _ _ _ _ a.1 (unlike (IdPresent (first (has_id w.id) ss)) (Short i) (λ z. omega arith)) in
-    let full : given (leb limit (length ss)) (not_for TableFull) (allow (insert (entered w) ss)) ≡ not_for (Short i) → ⊥ =
-    either (λ (d : Decision). d ≡ not_for (Short i) → ⊥) _ _ _ (λ _. unlike TableFull (Short i) (λ z. omega arith)) (λ _. granted _ _) in
+    let full : given (leb limit (length ss)) (Err TableFull) (Ok (insert (entered w) ss)) ≡ Err (Short i) → ⊥ =
+    either (λ (d : Decision). d ≡ Err (Short i) → ⊥) _ _ _ (λ _. unlike TableFull (Short i) (λ z. omega arith)) (λ _. granted _ _) in
     let c = taken _ _ _ _ b.1 full in
     first_short (entered w) ss i c.0 (extras c.1)
 
 -- 20 of Move
-pub move-short : (ss : List Station) (id channel i : ℕ) → decide ss (move id channel) ≡ not_for (Short i) → (x : Station) × (x.id ≡ id) × (x ∈ ss) × FirstShort (onto channel x) ss i
+pub move-short : (ss : List Station) (id channel i : ℕ) → decide ss (move id channel) ≡ Err (Short i) → (x : Station) × (x.id ≡ id) × (x ∈ ss) × FirstShort (onto channel x) ss i
 unfolding decide
 move-short ss id channel i e =
     let a = past _ _ _ _ e (unlike AskedChannel (Short i) (λ z. omega arith)) in
-    let f = with_found id _ _ ss (not_for (Short i)) a.1 (unlike IdAbsent (Short i) (λ z. omega arith)) in
+    let f = with_found id _ _ ss (Err (Short i)) a.1 (unlike IdAbsent (Short i) (λ z. omega arith)) in
     let b = past _ _ _ _ f.3 (unlike (NotMovable (first (has_id id) ss)) (Short i) (λ z. omega arith)) in
     let c = taken _ _ _ _ b.1 (granted _ _) in
     (f.0, f.1, f.2, first_short (onto channel f.0) ss i c.0 (extras c.1))

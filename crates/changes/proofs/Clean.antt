@@ -1,5 +1,6 @@
 -- A granted change leaves no new near pair, whatever it is to be near, as long as it reaches no farther than being short: so a list in
 -- which no pair is short stays such by each of the three changes, and one in which no two records are twins. Assumes nothing.
+use Rattle.std.specs.Prelude.{Ok}
 use mathlib.Core.Path.{◌≡◌, refl, sym, ap, ◌∙◌, subst}
 use mathlib.Core.Logic.{◌↔◌}
 use mathlib.Core.Bool.{Bool, true, false, ◌&&◌, ◌||◌, true≢false}
@@ -21,7 +22,7 @@ use Rattle.stations.proofs.Fine.{Fine, Good}
 use Rattle.stations.proofs.Repeats.{twins-are, twins_either}
 use Rattle.desk.proofs.Asked.{fair}
 use Rattle.finding.specs.Conflicts.{short_to}
-use Rattle.changes.specs.Changes.{Change, add, withdraw, move, allow, entered, decide}
+use Rattle.changes.specs.Changes.{Change, add, withdraw, move, entered, decide}
 use Rattle.changes.specs.declared.Newcomer.{Newcomer}
 use Rattle.changes.proofs.Grants.{AddPasses, added, withdrawn, moved}
 use Rattle.changes.proofs.Apart.{add_apart, move-apart}
@@ -46,7 +47,7 @@ module _ (near : Station → Station → Bool) (swap : (a b : Station) → near 
   unfolding Apart
   apart_too t r ss f h a x m = nearer t r x f h (a x m)
 
-  pub unpaired : (t : ℕ) (ss : List Station) → Good t ss → (c : Change) (rs : List Station) → NoPair near ss → decide ss c ≡ allow rs → NoPair near rs
+  pub unpaired : (t : ℕ) (ss : List Station) → Good t ss → (c : Change) (rs : List Station) → NoPair near ss → decide ss c ≡ Ok rs → NoPair near rs
   unpaired t ss g (add w) rs k e =
       let a = added ss w rs e in
       let f = fine_entered t ss w a.passes in
@@ -66,7 +67,7 @@ module _ (near : Station → Station → Bool) (swap : (a b : Station) → near 
 
 -- ---- shortness
 
-pub clean : (t : ℕ) (ss : List Station) → Good t ss → (c : Change) (rs : List Station) → NoPair short_to ss → decide ss c ≡ allow rs → NoPair short_to rs
+pub clean : (t : ℕ) (ss : List Station) → Good t ss → (c : Change) (rs : List Station) → NoPair short_to ss → decide ss c ≡ Ok rs → NoPair short_to rs
 clean = unpaired short_to (λ a b. short_either table-a (as_it_stands a) (as_it_stands b)) (λ t r x f h e. e)
 
 -- ---- records that are twins
@@ -84,7 +85,7 @@ twins-short t r x f high e = go (twins r x) refl
     go false q = q
 
 -- so Add and Move make no such pair
-pub single : (t : ℕ) (ss : List Station) → Good t ss → (c : Change) (rs : List Station) → NoPair twins ss → decide ss c ≡ allow rs → NoPair twins rs
+pub single : (t : ℕ) (ss : List Station) → Good t ss → (c : Change) (rs : List Station) → NoPair twins ss → decide ss c ≡ Ok rs → NoPair twins rs
 single = unpaired twins twins_either twins-short
 
 -- ---- pairs with a channel above 220

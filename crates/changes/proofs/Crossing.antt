@@ -1,4 +1,5 @@
 -- 02, R-3: the version that a granted change writes. Add and Withdraw change it where they cross the line. Assumes nothing.
+use Rattle.std.specs.Prelude.{Ok}
 use mathlib.Core.Path.{◌≡◌, sym, ap, ◌∙◌}
 use mathlib.Core.List.{List}
 use Prim.Native.Nat.{ℕ, ◌+◌, ◌^◌, ◌<◌}
@@ -10,10 +11,9 @@ use Rattle.versions.proofs.Versions.{calls_one, calls_two}
 use Rattle.stations.specs.Image.{stations, version, count}
 use Rattle.stations.specs.Encode.{version_of}
 use Rattle.stations.proofs.Changed.{length_insert, one_less, length-rechannel}
-use Rattle.stations.proofs.Table.{whole, length-stations, version_called}
+use Rattle.stations.proofs.Whole.{whole, length-stations, version_called}
 use Rattle.stations.proofs.Places.{ids_ascend}
 use Rattle.desk.specs.Answers.{Answered}
-use Rattle.desk.specs.declared.Answer.TheVariants.{Granted}
 use Rattle.changes.specs.Changes.{Change, add, withdraw, move, entered, changed_for}
 use Rattle.changes.specs.Meaning.{Leaves}
 use Rattle.changes.specs.declared.Newcomer.{Newcomer}
@@ -27,7 +27,7 @@ left_version {t = t} l = version_called (whole t (count t) l.accepted) ∙ ap ve
 
 module _ (s : List ℕ) (b : Bytes s) (entry exit : List ℕ) (n : ℕ) where
   -- Add to a list of 2,000 writes version 2
-  pub add_crosses : (w : Newcomer) → w.id < 2 ^ 32 → Answered (changed_for s (add w)) entry exit (Granted n) → count s ≡ line → version (take n exit) ≡ 2
+  pub add_crosses : (w : Newcomer) → w.id < 2 ^ 32 → Answered (changed_for s (add w)) entry exit (Ok n) → count s ≡ line → version (take n exit) ≡ 2
   add_crosses w h a e =
       let g = granted_result s (add w) entry exit n a in
       let l = granted-change s (add w) entry exit n b h a in
@@ -36,7 +36,7 @@ module _ (s : List ℕ) (b : Bytes s) (entry exit : List ℕ) (n : ℕ) where
       left_version l ∙ calls_two (length l.list) (omega (arith, m))
 
   -- Withdraw from one of 2,001 writes version 1
-  pub withdraw_crosses : (id : ℕ) → id < 2 ^ 32 → Answered (changed_for s (withdraw id)) entry exit (Granted n) → count s ≡ line + 1 → version (take n exit) ≡ 1
+  pub withdraw_crosses : (id : ℕ) → id < 2 ^ 32 → Answered (changed_for s (withdraw id)) entry exit (Ok n) → count s ≡ line + 1 → version (take n exit) ≡ 1
   withdraw_crosses id h a e =
       let g = granted_result s (withdraw id) entry exit n a in
       let l = granted-change s (withdraw id) entry exit n b h a in
@@ -46,7 +46,7 @@ module _ (s : List ℕ) (b : Bytes s) (entry exit : List ℕ) (n : ℕ) where
       left_version l ∙ calls_one (length l.list) (omega (arith, m))
 
   -- Move keeps the version
-  pub move_keeps : (id channel : ℕ) → id < 2 ^ 32 → Answered (changed_for s (move id channel)) entry exit (Granted n) → version (take n exit) ≡ version s
+  pub move_keeps : (id channel : ℕ) → id < 2 ^ 32 → Answered (changed_for s (move id channel)) entry exit (Ok n) → version (take n exit) ≡ version s
   unfolding version_of
   move_keeps id channel h a =
       let g = granted_result s (move id channel) entry exit n a in

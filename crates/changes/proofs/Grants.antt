@@ -1,4 +1,7 @@
 -- What a granted change tells: the list that is granted, and every test that it passed. Assumes nothing.
+use Rattle.refusals.specs.Faults.{Verdict}
+use Rattle.refusals.specs.declared.Fault.{Fault}
+use Rattle.std.specs.Prelude.{Ok, Err}
 use mathlib.Core.Path.{◌≡◌, refl, sym}
 use mathlib.Core.Bool.{true, false}
 use mathlib.Core.List.{List}
@@ -9,38 +12,30 @@ use lib.ListN.{length}
 use borrow.Author.Tests.{ltb-false, leb-false, eqb-false}
 use Rattle.ground.specs.Lists.{◌∈◌, some}
 use Rattle.ground.proofs.Guards.{past, not_was, or_was}
-use Rattle.refusals.specs.declared.Refusal.{Refusal}
 use Rattle.versions.specs.Version.{limit}
 use Rattle.stations.specs.Lists.{has_id, movable, onto, insert, without, rechannel}
 use Rattle.stations.specs.declared.Station.{Station}
-use Rattle.stations.specs.declared.Verdict.{Verdict}
-use Rattle.stations.specs.declared.Verdict.TheVariants.{Sound, Faulty}
 use Rattle.stations.proofs.Ids.{with_found}
-use Rattle.desk.specs.Asked.{asked_fault}
 use Rattle.finding.specs.Conflicts.{conflicts}
-use Rattle.changes.specs.Changes.{add, withdraw, move, Decision, allow, refuse, on_verdict, entered, decide}
+use Rattle.changes.specs.Changes.{add, withdraw, move, Decision, on_verdict, asked_of, entered, decide}
 use Rattle.changes.specs.declared.Newcomer.{Newcomer}
 
-pub denied : (f : Refusal) (rs : List Station) → refuse f ≡ allow rs → ⊥
-denied f rs e = let z : ◌≡◌ {A = ℕ} 0 1 = cc in omega arith
+pub denied : (f : Fault) (rs : List Station) → ◌≡◌ {A = Decision} (Err f) (Ok rs) → ⊥
+denied f rs e = cc
 
-same : {rs ss : List Station} → allow rs ≡ allow ss → rs ≡ ss
+same : {rs ss : List Station} → ◌≡◌ {A = Decision} (Ok rs) (Ok ss) → rs ≡ ss
 same e = cc
 
 -- what was asked for was in order
-passed : (v : Verdict) (d : Decision) (rs : List Station) → on_verdict v d ≡ allow rs → (v ≡ Sound) × (d ≡ allow rs)
-passed Sound d rs e = (refl, e)
-passed (Faulty f) d rs e = absurd (denied f rs e)
+passed : (v : Verdict) (d : Decision) (rs : List Station) → on_verdict v d ≡ Ok rs → (v ≡ (Ok tt)) × (d ≡ Ok rs)
+passed (Ok tt) d rs e = (refl, e)
+passed (Err f) d rs e = absurd (denied f rs e)
 
 -- ---- Add
 
--- how what is asked of a newcomer is judged
-abbrev pub asked_of : Newcomer → Verdict
-asked_of w = asked_fault w.channel w.channel w.class w.zone w.latitude w.longitude
-
 -- past every refusal but 20
 pub record AddPasses (ss : List Station) (w : Newcomer) : Type 0 where
-  pub asked : asked_of w ≡ Sound
+  pub asked : asked_of w ≡ (Ok tt)
   pub counts : 0 < w.id
   pub new : some (has_id w.id) ss ≡ false
   pub room : length ss < limit
@@ -50,7 +45,7 @@ pub record Added (ss : List Station) (w : Newcomer) (rs : List Station) : Type 0
   pub passes : AddPasses ss w
   pub clear : some (conflicts (entered w)) ss ≡ false
 
-pub added : (ss : List Station) (w : Newcomer) (rs : List Station) → decide ss (add w) ≡ allow rs → Added ss w rs
+pub added : (ss : List Station) (w : Newcomer) (rs : List Station) → decide ss (add w) ≡ Ok rs → Added ss w rs
 unfolding decide
 added ss w rs e =
     let v = passed _ _ rs e in
@@ -71,7 +66,7 @@ pub record Withdrawn (ss : List Station) (id : ℕ) (rs : List Station) : Type 0
   pub is : rs ≡ without id ss
   pub present : some (has_id id) ss ≡ true
 
-pub withdrawn : (ss : List Station) (id : ℕ) (rs : List Station) → decide ss (withdraw id) ≡ allow rs → Withdrawn ss id rs
+pub withdrawn : (ss : List Station) (id : ℕ) (rs : List Station) → decide ss (withdraw id) ≡ Ok rs → Withdrawn ss id rs
 unfolding decide
 withdrawn ss id rs e =
     let a = past _ _ _ _ e (denied _ rs) in
@@ -93,12 +88,12 @@ pub record Moved (ss : List Station) (id channel : ℕ) (rs : List Station) : Ty
   pub passes : MovePasses ss id channel from
   pub clear : some (conflicts (onto channel from)) ss ≡ false
 
-pub moved : (ss : List Station) (id channel : ℕ) (rs : List Station) → decide ss (move id channel) ≡ allow rs → Moved ss id channel rs
+pub moved : (ss : List Station) (id channel : ℕ) (rs : List Station) → decide ss (move id channel) ≡ Ok rs → Moved ss id channel rs
 unfolding decide
 moved ss id channel rs e =
     let a = past _ _ _ _ e (denied _ rs) in
     let w = or_was (ltb channel 221) (ltb 300 channel) a.0 in
-    let f = with_found id _ _ ss (allow rs) a.1 (denied _ rs) in
+    let f = with_found id _ _ ss (Ok rs) a.1 (denied _ rs) in
     let b = past _ _ _ _ f.3 (denied _ rs) in
     let c = past _ _ _ _ b.1 (denied _ rs) in
     record {

@@ -1,4 +1,5 @@
 -- A granted change leaves every other record as it was: in the list, and byte for byte in the image. Assumes nothing.
+use Rattle.std.specs.Prelude.{Ok}
 use mathlib.Core.Path.{◌≡◌, sym, ap, ◌∙◌}
 use mathlib.Core.Logic.{◌↔◌, inr, ⊎_elim}
 use mathlib.Core.List.{List, ◌∷◌}
@@ -11,17 +12,17 @@ use Rattle.stations.specs.Image.{station_at}
 use Rattle.stations.specs.Encode.{encode}
 use Rattle.stations.specs.declared.Station.{Station}
 use Rattle.stations.proofs.Changed.{in_insert, in_without, other_rechannel}
-use Rattle.stations.proofs.Table.{whole, next}
+use Rattle.stations.proofs.Whole.{whole, next}
 use Rattle.stations.proofs.Cuts.{bytes_at_lem}
 use Rattle.stations.proofs.Parts.{Valid, valid_image}
-use Rattle.changes.specs.Changes.{Change, add, withdraw, move, allow, entered, decide}
+use Rattle.changes.specs.Changes.{Change, add, withdraw, move, entered, decide}
 use Rattle.changes.specs.Meaning.{named, Keeps}
 use Rattle.changes.proofs.Grants.{added, withdrawn, moved}
 
 -- ---- in the list
 
 -- a record whose id the change does not name stands in the granted list exactly when it stood in the table
-pub kept : (ss : List Station) (c : Change) (rs : List Station) (x : Station) → decide ss c ≡ allow rs → (x.id ≡ named c → ⊥) → (x ∈ ss) ↔ (x ∈ rs)
+pub kept : (ss : List Station) (c : Change) (rs : List Station) (x : Station) → decide ss c ≡ Ok rs → (x.id ≡ named c → ⊥) → (x ∈ ss) ↔ (x ∈ rs)
 kept ss (add w) rs x e n =
     let k = in_insert (entered w) {x = x} ss in
     rw (added ss w rs e).is (λ m. k.1 (inr m), λ m. ⊎_elim (λ (q : x ≡ entered w). absurd (n (ap (λ (y : Station). y.id) q))) (λ (o : x ∈ ss). o) (k.0 m))

@@ -1,9 +1,9 @@
 -- Add, Withdraw and Move: what a granted change leaves. Assumes nothing.
-use Rattle.std.specs.Prelude.{◌≡◌, List, ℕ, ◌<◌}
+use Rattle.std.specs.Prelude.{◌≡◌, List, ℕ, ◌<◌, Ok}
 use Rattle.stations.specs.Image.{station_at, bytes_at, count, stations, Accepted}
 use Rattle.stations.specs.Encode.{encode}
 use Rattle.stations.specs.declared.Station.{Station}
-use Rattle.changes.specs.Changes.{Change, add, withdraw, move, allow, decide}
+use Rattle.changes.specs.Changes.{Change, add, withdraw, move, decide}
 
 -- the id that a change names
 abbrev pub named : Change → ℕ
@@ -19,7 +19,7 @@ Keeps id s t = (i : ℕ) → i < count s → ((station_at s i).id ≡ id → ⊥
 pub record Leaves (s : List ℕ) (c : Change) (t : List ℕ) : Type 0 where
   -- they are the image of the granted list
   pub list : List Station
-  pub granted : decide (stations s) c ≡ allow list
+  pub granted : decide (stations s) c ≡ Ok list
   pub image : t ≡ encode list
   -- the image is accepted, and has that list
   pub accepted : Accepted t

@@ -1,4 +1,5 @@
 -- 02, R-1: Check with an id left aside. Assumes nothing.
+use Rattle.std.specs.Prelude.{Ok}
 use mathlib.Core.Path.{◌≡◌}
 use mathlib.Core.Bool.{true}
 use mathlib.Core.List.{List}
@@ -8,7 +9,6 @@ use Rattle.wire.specs.Be.{Bytes}
 use Rattle.stations.specs.Image.{stations, judged}
 use Rattle.stations.specs.Encode.{encode}
 use Rattle.stations.specs.Lists.{has_id, without}
-use Rattle.stations.specs.declared.Judged.TheVariants.{Table}
 use Rattle.desk.specs.Answers.{grant, on_table, on_asked}
 use Rattle.part73.specs.Standards.{chosen}
 use Rattle.studies.specs.Studies.{wanted_fault}
@@ -22,7 +22,7 @@ whole p =
     record { channel = p.channel; class = p.class; zone = p.zone; latitude = p.latitude; longitude = p.longitude; aside = 0; standard = p.standard }
 
 -- with an id that stands in the table the outcome is that of the table without its record
-pub aside_checked : (s : List ℕ) → Bytes s → (n : ℕ) → judged s ≡ Table n → (p : Proposal) → some (has_id p.aside) (stations s) ≡ true → checked_for s p ≡ checked_for (encode (without p.aside (stations s))) (whole p)
+pub aside_checked : (s : List ℕ) → Bytes s → (n : ℕ) → judged s ≡ Ok n → (p : Proposal) → some (has_id p.aside) (stations s) ≡ true → checked_for s p ≡ checked_for (encode (without p.aside (stations s))) (whole p)
 unfolding checked_for
 aside_checked s b n e p h = study-without (on_one p) (rows_for (asked p)) s b n e h
 

@@ -1,5 +1,4 @@
 pub mod Meaning
 pub mod Listing
 pub mod Aside
-pub mod Passing
 pub mod Standards

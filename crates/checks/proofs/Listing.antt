@@ -1,18 +1,24 @@
 -- The rows of the noted positions, as numbers. Assumes nothing.
-use mathlib.Core.Path.{◌≡◌, refl, sym, ap}
-use mathlib.Core.List.{List, [], ◌∷◌, map}
-use Prim.Native.Nat.{ℕ, zero, suc, ◌+◌, ◌-◌, ◌*◌, ◌≤◌, ◌<◌}
+use mathlib.Core.Path.{◌≡◌, refl, sym, ap, ◌∙◌}
+use mathlib.Core.List.{List, [], ◌∷◌, ◌++◌, map}
+use Prim.Native.Nat.{ℕ, ◌+◌, ◌*◌, ◌<◌}
 use native.Mathlib.Omega.{arith}
-use lib.ListN.{length, get_or, take, drop, length-map, drop_of_length-le}
-use lib.Seq.{drop-cons, get_or-take, length-take-le}
-use Rattle.ground.specs.Lists.{span, each}
+use lib.ListN.{length, get_or, take, length-append, length-map}
+use lib.Seq.{sets}
+use Rattle.std.specs.List.{All}
+use Rattle.std.proofs.lemmas.List.{map_more}
+use Rattle.std.proofs.lemmas.List.Elements.{All-from_get_or}
+use Rattle.ground.specs.Lists.{keep}
 use Rattle.ground.specs.Rows.{Row, flat}
+use Rattle.ground.specs.Writing.{Wrote}
+use Rattle.ground.proofs.Writes.{sets_append, flat_append, wrote_as}
 use Rattle.spacing.specs.Pair.{Assignment}
-use Rattle.stations.specs.Image.{stations, Accepted}
-use Rattle.survey.specs.Ways.{looked, studied, chosen_for}
+use Rattle.stations.specs.Image.{station_at, stations, count, Accepted}
+use Rattle.stations.specs.declared.Station.{Station}
+use Rattle.survey.specs.Ways.{near, looked, studied, chosen_for}
 use Rattle.survey.specs.declared.Terms.{Terms}
-use Rattle.nearby.specs.Positions.{short_positions, Noted}
-use Rattle.nearby.proofs.Noted.{said_noted}
+use Rattle.nearby.specs.Positions.{short_positions}
+use Rattle.nearby.proofs.Noted.{noted_at, said_noted}
 use Rattle.checks.specs.Check.{row_of, short_rows}
 use Rattle.checks.specs.Positions.{rows_at}
 
@@ -21,27 +27,34 @@ unfolding flat
 length-flat [] = refl
 length-flat (r ∷ rs) = omega (arith, length-flat rs)
 
--- ---- the rows of the first k places
+-- three numbers for each
+pub length_rows : (g : ℕ → Row) (vs : List ℕ) → length (flat (map g vs)) ≡ 3 * length vs
+length_rows g vs = omega (arith, length-flat (map g vs), length-map vs g)
 
-module _ (g : ℕ → Row) (hits : List ℕ) (k : ℕ) (h : k ≤ length hits) where
-  -- from i on
-  rows_from : (m i : ℕ) → i + m ≡ k → each (λ t. flat (g (get_or hits t 0) ∷ [])) (span i m) ≡ flat (map g (drop i (take k hits)))
-  unfolding flat each span
-  rows_from zero i e = ap (λ (l : List ℕ). flat (map g l)) (sym (drop_of_length-le (take k hits) {i = i} (omega (arith, length-take-le k hits h))))
-  rows_from (suc m) i e =
-      let l : i < length (take k hits) = omega (arith, length-take-le k hits h) in
-      rw (drop-cons (take k hits) i 0 l, get_or-take k hits i 0 (omega arith), rows_from m (suc i) (omega arith))
+-- one run of writes after another
+wrote_on : {u v entry rows exit : List ℕ} {at next end : ℕ} → Wrote u entry at rows next → Wrote v rows next exit end → Wrote (u ++ v) entry at exit end
+wrote_on {u} {v} {entry} {rows} {at = at} a b =
+    record {
+      next = omega (arith, a.next, b.next, length-append u v);
+      stored = b.stored ∙ ap (λ (k : ℕ). sets rows k v) a.next ∙ ap (λ (l : List ℕ). sets l (at + length u) v) a.stored ∙ sym (sets_append u v entry at);
+    }
 
-  pub rows_are : each (λ t. flat (g (get_or hits t 0) ∷ [])) (span 0 (k - 0)) ≡ flat (map g (take k hits))
-  rows_are = rows_from (k - 0) 0 (omega arith)
+-- the rows of the first t, and one more
+pub rows_more : (g : ℕ → Row) (vs : List ℕ) (t : ℕ) {entry rows exit : List ℕ} {start at next : ℕ} → t < length vs → Wrote (flat (map g (take t vs))) entry start rows at → Wrote (flat (g (get_or vs t 0) ∷ [])) rows at exit next → Wrote (flat (map g (take (t + 1) vs))) entry start exit next
+rows_more g vs t h a b = wrote_as (sym (ap flat (map_more g vs t 0 h) ∙ flat_append (map g (take t vs)) (g (get_or vs t 0) ∷ []))) (wrote_on a b)
 
-  -- three numbers for each
-  pub length_rows : length (flat (map g (take k hits))) ≡ 3 * k
-  length_rows = omega (arith, length-flat (map g (take k hits)), length-map (take k hits) g, length-take-le k hits h)
+-- ---- where the short stations of those that are studied are noted
 
--- ---- the rows of the question
+module _ (s : List ℕ) (t : Terms) (p : Assignment) {vs : List ℕ} (noted : vs ≡ short_positions (chosen_for t) (looked t) s p) where
+  -- each is a position of the table
+  pub noted_within : All (λ i. i < count s) vs
+  noted_within = rw noted (All-from_get_or (λ i. i < count s) _ 0 (noted_at (chosen_for t) (looked t) s p))
 
--- where the short stations of those that are studied are noted
-pub rows_noted : (s : List ℕ) → Accepted s → (t : Terms) (p : Assignment) {hits : List ℕ} {k : ℕ} → Noted (short_positions (chosen_for t) (looked t) s p) hits k → rows_at (chosen_for t) s p (take k hits) ≡ short_rows (chosen_for t) p (studied t (stations s))
-unfolding short_rows
-rows_noted s e t p w = said_noted s e t p w (row_of (chosen_for t) p)
+  -- what is said of them is said of the short stations
+  pub noted_said : {A : Type 0} (g : Station → A) → Accepted s → map (λ j. g (station_at s j)) vs ≡ map g (keep (near (chosen_for t) p) (studied t (stations s)))
+  noted_said g e = rw noted (said_noted s e t p g)
+
+  -- so are their rows
+  pub rows_noted : Accepted s → rows_at (chosen_for t) s p vs ≡ short_rows (chosen_for t) p (studied t (stations s))
+  unfolding short_rows
+  rows_noted e = noted_said (row_of (chosen_for t) p) e

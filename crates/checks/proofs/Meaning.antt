@@ -1,5 +1,7 @@
 -- What Check answers: exactly the short stations, each once, in table order, with its D and R; and nothing is left open.
 -- Assumes nothing.
+use Rattle.refusals.specs.Faults.{Answer}
+use Rattle.std.specs.Prelude.{Ok}
 use mathlib.Core.Path.{◌≡◌, refl}
 use mathlib.Core.Logic.{◌↔◌}
 use mathlib.Core.Bool.{true}
@@ -14,11 +16,9 @@ use Rattle.part73.specs.Standards.{chosen}
 use Rattle.spacing.specs.Pair.{Assignment, short_by}
 use Rattle.stations.specs.Image.{stations, count, Accepted}
 use Rattle.stations.specs.declared.Station.{Station}
-use Rattle.stations.specs.declared.Verdict.TheVariants.{Sound}
 use Rattle.survey.specs.Ways.{near, studied}
 use Rattle.survey.proofs.Studied.{studied_ascend}
 use Rattle.desk.specs.Answers.{grant, Answered}
-use Rattle.desk.specs.declared.Answer.{Answer}
 use Rattle.desk.proofs.Answers.{one_answer}
 use Rattle.studies.specs.Studies.{terms_asked, study_fault}
 use Rattle.studies.proofs.Ways.{granted_on}
@@ -71,7 +71,7 @@ module _ (km : ℕ → ℕ → ℕ → ℕ) (p : Assignment) where
 
 -- what is granted to a proposal that passes its checks: the one list of the rows of its short stations by the chosen table, of those
 -- that are studied
-pub granted : (s : List ℕ) (p : Proposal) → Accepted s → study_fault (stations s) (on_one p) ≡ Sound
+pub granted : (s : List ℕ) (p : Proposal) → Accepted s → study_fault (stations s) (on_one p) ≡ (Ok tt)
     → (l : List Row) → Ascending Before l → ((x : Row) → (x ∈ l) ↔ ShortRow (chosen p.standard) (asked p) (studied (terms_asked (on_one p)) (stations s)) x) → checked_for s p ≡ grant (flat l)
 unfolding checked_for
 granted s p e q l a h =

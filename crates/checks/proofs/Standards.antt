@@ -17,11 +17,10 @@ use Rattle.survey.proofs.Studied.{studied-known}
 use Rattle.desk.specs.Answers.{grant}
 use Rattle.studies.specs.Studies.{terms_asked}
 use Rattle.studies.proofs.Standards.{before, study_1, faults_alike}
-use Rattle.studies.proofs.Ways.{granted_on, granted_was}
+use Rattle.studies.proofs.Ways.{passed, granted_on, granted_was}
 use Rattle.checks.specs.Check.{asked, on_one, short_rows, rows_for, checked_for}
 use Rattle.checks.specs.declared.Proposal.{Proposal}
 use Rattle.checks.proofs.Meaning.{near-short, acceptable}
-use Rattle.checks.proofs.Passing.{passed_one}
 
 -- the same proposal by another standard
 abbrev pub by : ℕ → Proposal → Proposal
@@ -52,6 +51,6 @@ acceptable_by_2 s p e =
     let w = on_one (by by_table_a p) in
     let g = granted_was s w (rows_for (asked p)) [] e in
     let ss = studied (terms_asked w) (stations s) in
-    let mine = (passed_one s (by by_table_a p) g.0 g.1).placed.known in
+    let mine = (passed s w g.1).0.known in
     let none = none_by_2 (asked p) ss mine (studied-known s (count s) g.0 (terms_asked w)) (no_rows _ g.2) in
     granted_on s (on_one (by by_lesser p)) (rows_for (asked p)) g.0 (sym (faults_alike (stations s) (on_one p)) ∙ g.1) ∙ ap (λ (rs : List Row). grant (flat rs)) none

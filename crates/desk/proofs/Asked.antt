@@ -1,4 +1,5 @@
 -- What a question that passed its own checks tells, and what these can find. Assumes nothing.
+use Rattle.std.specs.Prelude.{Ok, Err}
 use mathlib.Core.Path.{◌≡◌}
 use mathlib.Core.Bool.{true}
 use Prim.Native.Nat.{ℕ, ◌≤◌, ◌<◌}
@@ -10,14 +11,14 @@ use Rattle.ground.proofs.Guards.{past, or_was, and_was}
 use Rattle.ground.proofs.Cases.{either}
 use Rattle.distance.specs.Distance.{latitude_ok, longitude_ok, Placed}
 use Rattle.part73.specs.Classes.{is_class}
-use Rattle.refusals.specs.declared.Refusal.{Refusal}
-use Rattle.refusals.specs.Faults.{AskedChannel, AskedClass, AskedZone, NotPermitted, AskedSite}
-use Rattle.stations.specs.declared.Verdict.TheVariants.{Sound, Faulty}
+use Rattle.refusals.specs.Faults.{Verdict}
+use Rattle.refusals.specs.declared.Fault.{Fault}
+use Rattle.refusals.specs.declared.Fault.TheVariants.{AskedChannel, AskedClass, AskedZone, NotPermitted, AskedSite}
 use Rattle.stations.proofs.Stages.{then-sound}
 use Rattle.stations.proofs.Found.{Found, sound, fault, found-then}
 use Rattle.desk.specs.Asked.{outside, site_ok, class_fault, kind_fault, site_fault, asked_fault}
 
-never : (f : Refusal) → Faulty f ≡ Sound → ⊥
+never : (f : Fault) → ◌≡◌ {A = Verdict} (Err f) (Ok tt) → ⊥
 never f e = let z : ◌≡◌ {A = ℕ} 0 1 = cc in omega arith
 
 pub site-placed : (latitude longitude : ℤ) → site_ok latitude longitude ≡ true → Placed latitude longitude
@@ -26,11 +27,11 @@ site-placed latitude longitude e =
     let h = and_was _ (leb (nat_abs longitude) 648000) e in
     record { north = leb-true (nat_abs latitude) 270000 h.0; east = leb-true (nat_abs longitude) 648000 h.1 }
 
-pub class-known : (class zone : ℕ) → class_fault class zone ≡ Sound → class < 8
+pub class-known : (class zone : ℕ) → class_fault class zone ≡ (Ok tt) → class < 8
 unfolding class_fault is_class
 class-known class zone e = let a = past _ _ _ _ e (never _) in omega (arith, leb-true class 7 (not-false _ a.0))
 
-pub site-sound : (latitude longitude : ℤ) → site_fault latitude longitude ≡ Sound → Placed latitude longitude
+pub site-sound : (latitude longitude : ℤ) → site_fault latitude longitude ≡ (Ok tt) → Placed latitude longitude
 unfolding site_fault
 site-sound latitude longitude e = let a = past _ _ _ _ e (never _) in site-placed latitude longitude (not-false _ a.0)
 
@@ -41,7 +42,7 @@ pub record Kind (first last class : ℕ) : Type 0 where
   pub high : last ≤ 300
   pub known : class < 8
 
-pub kind : (first last class zone : ℕ) → kind_fault first last class zone ≡ Sound → Kind first last class
+pub kind : (first last class zone : ℕ) → kind_fault first last class zone ≡ (Ok tt) → Kind first last class
 unfolding kind_fault
 kind first last class zone e =
     let a = past _ _ _ _ e (never _) in
@@ -61,7 +62,7 @@ pub record Fair (first last class : ℕ) (latitude longitude : ℤ) : Type 0 whe
   pub kind : Kind first last class
   pub placed : Placed latitude longitude
 
-pub fair : (first last class zone : ℕ) (latitude longitude : ℤ) → asked_fault first last class zone latitude longitude ≡ Sound → Fair first last class latitude longitude
+pub fair : (first last class zone : ℕ) (latitude longitude : ℤ) → asked_fault first last class zone latitude longitude ≡ (Ok tt) → Fair first last class latitude longitude
 unfolding asked_fault
 fair first last class zone latitude longitude e =
     let v = then-sound (kind_fault first last class zone) (site_fault latitude longitude) e in

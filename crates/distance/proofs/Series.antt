@@ -1,7 +1,8 @@
 -- The series: its terms never grow, so its sum is a natural number that is at most E. Assumes nothing.
 use mathlib.Core.Path.{◌≡◌, refl, sym, ap, ◌∙◌, subst}
-use Prim.Native.Nat.{ℕ, suc, ◌+◌, ◌-◌, ◌*◌, ◌/◌, ◌≤◌}
+use Prim.Native.Nat.{ℕ, zero, suc, ◌+◌, ◌-◌, ◌*◌, ◌/◌, ◌≤◌}
 use native.Mathlib.Nat.{le_refl, le_trans, mul-le-mul_left, mul-le-mul_right, mul-le-mul, div-le_of_le-mul}
+use native.Mathlib.Numerals.{add-one}
 use lib.Dec.{lit≤}
 use native.Mathlib.Omega.{arith}
 use lib.IntN.{ℤ, pos, nat_abs, ◌+ℤ◌, ◌-ℤ◌}
@@ -48,6 +49,35 @@ t-falls x k hx = next_le (t x k) x ((2 * k + 1) * (2 * k + 2)) hx (le_trans (lit
 
     two : (k : ℕ) → 2 ≤ 2 * k + 2
     two k = omega arith
+
+-- the same as far as 2 n terms after the first
+abbrev pub up_to : ℕ → ℕ → ℕ
+up_to x zero = t x 0
+up_to x (suc n) = up_to x n - t x (2 * n + 1) + t x (2 * n + 2)
+
+pub up_to_next : (x n : ℕ) → up_to x (n + 1) ≡ up_to x n - t x (2 * n + 1) + t x (2 * n + 2)
+up_to_next x n = rw add-one
+
+pub first_term : (x : ℕ) → E ≡ t x 0
+unfolding t
+first_term x = refl
+
+-- a term that is taken away, and one that is added, from the one before it
+pub odd_term : (x k : ℕ) → next (t x (2 * k)) x ((4 * k + 1) * (4 * k + 2)) ≡ t x (2 * k + 1)
+unfolding t
+odd_term x k =
+    let a : 4 * k + 1 ≡ 2 * (2 * k) + 1 = omega arith in
+    let b : 4 * k + 2 ≡ 2 * (2 * k) + 2 = omega arith in
+    let e : 2 * k + 1 ≡ suc (2 * k) = omega arith in
+    rw (a, b, e)
+
+pub even_term : (x k : ℕ) → next (t x (2 * k + 1)) x ((4 * k + 3) * (4 * k + 4)) ≡ t x (2 * k + 2)
+unfolding t
+even_term x k =
+    let a : 4 * k + 3 ≡ 2 * (2 * k + 1) + 1 = omega arith in
+    let b : 4 * k + 4 ≡ 2 * (2 * k + 1) + 2 = omega arith in
+    let e : 2 * k + 2 ≡ suc (2 * k + 1) = omega arith in
+    rw (a, b, e)
 
 module _ (x : ℕ) (hx : x ≤ 1310000000) where
   falls : (k : ℕ) → t x (suc k) ≤ t x k

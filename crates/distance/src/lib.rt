@@ -5,6 +5,13 @@ ghost use Rattle.std.specs.Prelude.{◌≡◌, ◌+◌, ◌*◌, ◌/◌, ◌≤
 ghost use Rattle.distance.specs.Distance.{◌÷◌, E, next, series, lon_gap, P, Q, S, root, D, latitude_ok, longitude_ok, Placed};
 ghost use Rattle.distance.specs.Bounds.{LeastScale, MostHalves};
 
+// A site in signed seconds of arc, in range or not.
+#[derive(Clone, Copy, Debug, PartialEq, Eq)]
+pub struct Site {
+    pub latitude: i32,
+    pub longitude: i32,
+}
+
 // a × b / E, cut toward zero.
 fn scaled(a: i64, b: i64) -> i64
     requires { nat_abs a * nat_abs b ≤ 4000000000000000000 }
@@ -29,21 +36,22 @@ fn next_term(t: u64, x: u64, d: u64) -> u64
     t * x / 1_000_000_000 * x / 1_000_000_000 / d
 }
 
-// The cosine of x. From the seventh on its terms are 0.
+// The cosine of x: a term is taken away and the next one added. From the seventh on they are 0.
 fn cosine(x: u64) -> i64
     requires { x ≤ 1310000000 }
     ensures { result ≡ series x }
 {
-    let t1 = next_term(1_000_000_000, x, 2);
-    let t2 = next_term(t1, x, 12);
-    let t3 = next_term(t2, x, 30);
-    let t4 = next_term(t3, x, 56);
-    let t5 = next_term(t4, x, 90);
-    let t6 = next_term(t5, x, 132);
-    (1_000_000_000 - t1 + t2 - t3 + t4 - t5 + t6) as i64
+    let mut term = 1_000_000_000;
+    let mut sum = term;
+    for k in 0..3 {
+        let less = next_term(term, x, (4 * k + 1) * (4 * k + 2));
+        term = next_term(less, x, (4 * k + 3) * (4 * k + 4));
+        sum = sum - less + term;
+    }
+    sum as i64
 }
 
-// P, of the cosines of 2 and 4 times the mean latitude.
+// P, of the cosines of 2 and 4 times the mean latitude. P and Q are two sums of 73.208(c): one function for both would show neither.
 fn p_of(c2: i64, c4: i64) -> i64
     requires { (nat_abs c2 ≤ 1000000000) × (nat_abs c4 ≤ 1000000000) }
     ensures { result ≡ pos 1111320900 -ℤ pos 5660500 *ℤ c2 ÷ E +ℤ pos 12000 *ℤ c4 ÷ E }
@@ -81,27 +89,19 @@ fn scales_at(h: u64) -> Scales
     Scales { p, q }
 }
 
-// |z|, of 32 bits.
-fn size_of(z: i32) -> u64
-    requires { nat_abs z ≤ 2000000 }
-    ensures { result ≡ nat_abs z }
-{
-    if z < 0 { (0 - z) as u64 } else { z as u64 }
-}
-
 // |a + b| and |a - b|, of two latitudes or two longitudes.
 fn sum_size(a: i32, b: i32) -> u64
     requires { (nat_abs a ≤ 648000) × (nat_abs b ≤ 648000) }
     ensures { result ≡ nat_abs (a +ℤ b) }
 {
-    size_of(a + b)
+    u64::from((a + b).unsigned_abs())
 }
 
 pub fn gap_size(a: i32, b: i32) -> u64
     requires { (nat_abs a ≤ 648000) × (nat_abs b ≤ 648000) }
     ensures { result ≡ nat_abs (a -ℤ b) }
 {
-    size_of(a - b)
+    u64::from(a.abs_diff(b))
 }
 
 // The difference of two longitudes, the short way round.
@@ -111,10 +111,7 @@ pub fn lon_gap(lon1: i32, lon2: i32) -> u64
     ensures { result ≡ lon_gap lon1 lon2 }
 {
     let plain = gap_size(lon1, lon2);
-    if 648_000 < plain {
-        return 1_296_000 - plain;
-    }
-    plain
+    plain.min(1_296_000 - plain)
 }
 
 // n seconds at p per degree, in decimetres.
@@ -133,34 +130,16 @@ fn square(n: u64) -> u64
 }
 
 // The square of the distance, in square decimetres.
-pub fn squared(lat1: i32, lon1: i32, lat2: i32, lon2: i32) -> u64
-    requires { (Placed lat1 lon1) × (Placed lat2 lon2) }
-    ensures { result ≡ S lat1 lon1 lat2 lon2 }
+pub fn squared(a: Site, b: Site) -> u64
+    requires { (Placed a.latitude a.longitude) × (Placed b.latitude b.longitude) }
+    ensures { result ≡ S a.latitude a.longitude b.latitude b.longitude }
 {
-    let k = scales_at(sum_size(lat1, lat2));
+    let k = scales_at(sum_size(a.latitude, b.latitude));
     let p = k.p;
     let q = k.q;
-    let ns = along(gap_size(lat1, lat2), p);
-    let ew = along(lon_gap(lon1, lon2), q);
+    let ns = along(gap_size(a.latitude, b.latitude), p);
+    let ew = along(lon_gap(a.longitude, b.longitude), q);
     square(ns) + square(ew)
-}
-
-// The largest number whose square does not pass s: the distance in whole decimetres.
-fn whole_root(s: u64) -> u64
-    requires { s ≤ 200000000000000000 }
-    ensures { (result ≡ root 32 s) × (result < 500000000) }
-{
-    let mut low = 0;
-    let mut high = 500_000_000;
-    while 1 < high - low {
-        let middle = (low + high) / 2;
-        if middle * middle <= s {
-            low = middle;
-        } else {
-            high = middle;
-        }
-    }
-    low
 }
 
 // The whole number of km nearest to the root of s square decimetres; a half rounds up.
@@ -168,25 +147,21 @@ pub fn rounded_km(s: u64) -> u64
     requires { s ≤ 200000000000000000 }
     ensures { result ≡ D s }
 {
-    (whole_root(s) + 5_000) / 10_000
+    (s.isqrt() + 5_000) / 10_000
 }
 
+#[tactic(auto, unfolding(crate::specs::Distance::latitude_ok))]
 pub fn latitude_ok(lat: i32) -> bool
     ensures { result ≡ latitude_ok lat }
 {
-    if lat < -270_000 {
-        return false;
-    }
-    lat <= 270_000
+    (-270_000..=270_000).contains(&lat)
 }
 
+#[tactic(auto, unfolding(crate::specs::Distance::longitude_ok))]
 pub fn longitude_ok(lon: i32) -> bool
     ensures { result ≡ longitude_ok lon }
 {
-    if lon < -648_000 {
-        return false;
-    }
-    lon <= 648_000
+    (-648_000..=648_000).contains(&lon)
 }
 
 // A length that no degree of longitude falls below, at the mean latitude of this one and any that is at most 9,500 seconds
@@ -205,9 +180,6 @@ fn half_seconds(lat: i32) -> u64
     requires { nat_abs lat ≤ 270000 }
     ensures { MostHalves lat result }
 {
-    let h = 2 * size_of(lat) + 9_500;
-    if 540_000 < h {
-        return 540_000;
-    }
-    h
+    let h = 2 * u64::from(lat.unsigned_abs()) + 9_500;
+    h.min(540_000)
 }

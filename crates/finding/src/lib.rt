@@ -2,41 +2,39 @@
 #![tactic(auto)]
 
 ghost use Rattle.std.specs.Prelude.{◌≡◌};
-ghost use Rattle.ground.specs.Lists.{some, first};
 ghost use Rattle.stations.specs.Image.{stations};
-ghost use Rattle.stations.specs.Lists.{has_id};
 ghost use Rattle.finding.specs.Conflicts.{conflicts};
-ghost use Rattle.finding.specs.Asking.{Sought, Entrant};
+ghost use Rattle.finding.specs.Asking.{found_at, first_of, Entrant};
 
+use nearby::Search;
 use standards::BY_TABLE_A;
-use stations::Station;
-use survey::Terms;
+use stations::{Station, Table};
+use survey::{Study, Terms};
 
-// Whether the id stands in the table, by its place.
-pub fn is_there(table: &[u8], p: usize, id: u32) -> bool
-    requires { Sought table.now id p }
-    ensures { result ≡ some (has_id id) (stations table.now) }
+// The position of the record with an id; or, as an error, the place where it would stand.
+pub fn find(table: &Table<'_>, id: u32) -> Result<usize, usize>
+    ensures { result ≡ found_at id (stations table.now.image.now) }
 {
-    let n = stations::count_of(table);
-    if n <= p {
-        return false;
+    let p = table.place_of(id);
+    if p < table.count() && table.station_at(p).id == id {
+        Ok(p)
+    } else {
+        Err(p)
     }
-    let x = stations::station_at(table, p);
-    x.id == id
 }
 
-// The position of the first other record that the station is short to by Table A; the count where there is none.
-pub fn first_conflict(table: &[u8], r: Station) -> usize
-    requires { Entrant table.now r }
-    ensures { result ≡ first (conflicts r) (stations table.now) }
+// The position of the first other record that the station is short to by Table A.
+pub fn first_conflict(table: &Table<'_>, r: Station) -> Option<usize>
+    requires { Entrant r }
+    ensures { result ≡ first_of (conflicts r) (stations table.now.image.now) }
 {
-    let channel = r.channel as usize;
-    let place = survey::place_of(r);
-    let limits = spacing::limits_of(BY_TABLE_A, place);
-    let free = nearby::free_of(channel);
-    let others = Terms {
-        aside: r.id,
-        standard: BY_TABLE_A,
+    let others = Study {
+        table: *table,
+        terms: Terms {
+            aside: r.id,
+            standard: BY_TABLE_A,
+        },
+        place: survey::place_of(r),
     };
-    nearby::next_short(table, 0, others, channel, place, &limits, &free)
+    Search::of(&others, r.channel as usize).next(0)
 }

@@ -1,36 +1,27 @@
 // Runs of made cases.
-use beside::{IMAGE_ROOM, compare};
-use cases::{Run, case_table, first_id, kind_of, made_question, records_of};
-use scenes::{REPEATING, TABLE_BYTES};
-use tally::{Notes, least, repeats_noted};
+use beside::{Images, compare};
+use cases::{Run, made_runs};
+use scenes::{Chance, SEED, TABLE_BYTES};
+use tally::Notes;
 
 // Room for the longest table that is made.
-pub(crate) type Table = [u8; TABLE_BYTES];
-
-// Room for the longest image.
-pub(crate) type Image = [u8; IMAGE_ROOM];
+type Table = [u8; TABLE_BYTES];
 
 // One made case.
 fn one_case(
     run: Run,
-    state: &mut u64,
-    table: &mut [u8],
-    mine: &mut [u8],
-    other: &mut [u8],
+    chance: &mut Chance,
+    table: &mut Table,
+    images: &mut Images,
     notes: &mut Notes,
 ) -> bool {
-    let kind = kind_of(state, run.question);
-    let n = records_of(state, run);
-    let id = first_id(state);
-    let q = made_question(state, kind, run.style, id, n);
-    let length = case_table(state, run, q, id, n, table);
-    let end = least(length, table.len());
-    compare(state, q, &table[..end], mine, other, notes)
+    let (q, length) = run.made_case(chance, table);
+    compare(chance, q, &table[..length], images, notes)
 }
 
 // Whether no more tables were refused for a repeat than before; else says so.
 fn none_repeated(before: u64, notes: &Notes) -> bool {
-    let now = repeats_noted(notes);
+    let now = notes.repeats();
     if now == before {
         return true;
     }
@@ -46,24 +37,31 @@ fn none_repeated(before: u64, notes: &Notes) -> bool {
 }
 
 // The cases of a run, up to the first difference; whether there is none, and no repeat that is not meant.
-pub(crate) fn run_cases(
+fn run_cases(
     run: Run,
-    state: &mut u64,
+    chance: &mut Chance,
     table: &mut Table,
-    mine: &mut Image,
-    other: &mut Image,
+    images: &mut Images,
     notes: &mut Notes,
 ) -> bool {
-    let before = repeats_noted(notes);
-    let mut left = run.cases;
-    while 0 < left {
-        if !one_case(run, state, table, mine, other, notes) {
+    let before = notes.repeats();
+    for _ in 0..run.cases {
+        if !one_case(run, chance, table, images, notes) {
             return false;
         }
-        left -= 1;
     }
-    if run.style == REPEATING {
-        return true;
+    run.repeats() || none_repeated(before, notes)
+}
+
+// All made cases, up to the first difference; whether there is none.
+pub(crate) fn made_cases(notes: &mut Notes) -> bool {
+    let mut table = [0u8; TABLE_BYTES];
+    let mut images = Images::new();
+    let mut chance = Chance::new(SEED);
+    for run in made_runs() {
+        if !run_cases(run, &mut chance, &mut table, &mut images, notes) {
+            return false;
+        }
     }
-    none_repeated(before, notes)
+    true
 }

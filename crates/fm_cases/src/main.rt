@@ -6,65 +6,38 @@ mod limits;
 mod made;
 mod paper;
 
-use beside::IMAGE_ROOM;
-use cases::{RUNS, run_of};
 use given::given_cases;
 use limits::{limits_alike, sides_alike};
-use made::run_cases;
+use made::made_cases;
 use paper::paper_cases;
-use scenes::{SEED, TABLE_BYTES};
-use tally::{Notes, fresh_notes, print_counts};
+use tally::Notes;
 
-// All made cases, up to the first difference; whether there is none.
-fn made_cases(notes: &mut Notes) -> bool {
-    let mut table = [0u8; TABLE_BYTES];
-    let mut mine = [0u8; IMAGE_ROOM];
-    let mut other = [0u8; IMAGE_ROOM];
-    let mut state = SEED;
-    let mut k: u32 = 0;
-    while k < RUNS {
-        if !run_cases(
-            run_of(k),
-            &mut state,
-            &mut table,
-            &mut mine,
-            &mut other,
-            notes,
-        ) {
-            return false;
-        }
-        k += 1;
+// Writes a line where a part is alike, and gives whether it is.
+fn told(alike: bool, line: &[u8]) -> bool {
+    if alike {
+        io::write_all(1, line);
     }
-    true
+    alike
 }
 
 // The paper's cases and then the made ones, up to the first difference; whether there is none.
 fn all_cases(notes: &mut Notes) -> bool {
-    if !paper_cases(notes) {
-        return false;
-    }
-    if !given_cases(notes) {
-        return false;
-    }
-    io::write_all(1, b"the paper's cases are as the paper has them\n");
-    if !limits_alike() {
-        return false;
-    }
-    io::write_all(1, b"the limits of all classes and columns are alike\n");
-    if !sides_alike(notes) {
-        return false;
-    }
-    io::write_all(
-        1,
-        b"on both sides of each, by both standards, the answers are alike\n",
-    );
-    made_cases(notes)
+    let paper = paper_cases(notes) && given_cases(notes);
+    told(paper, b"the paper's cases are as the paper has them\n")
+        && told(
+            limits_alike(),
+            b"the limits of all classes and columns are alike\n",
+        )
+        && told(
+            sides_alike(notes),
+            b"on both sides of each, by both standards, the answers are alike\n",
+        )
+        && made_cases(notes)
 }
 
 fn main() {
-    let mut notes = fresh_notes();
-    if !all_cases(&mut notes) {
-        return;
+    let mut notes = Notes::new();
+    if all_cases(&mut notes) {
+        notes.print();
     }
-    print_counts(&notes);
 }

@@ -1,43 +1,28 @@
 // The programs on stored inputs: each argument names a file, and the program that reads it.
 #![tactic(auto)]
 
+use programs::Program;
 use std::alloc::Global;
 use std::env;
 use std::fs::File;
 use std::os::fd::AsRawFd;
 use std::rt::Files;
 
-// Whether a name begins with a word.
-fn begins(name: &[u8], word: &[u8]) -> bool {
-    if name.len() < word.len() {
-        return false;
-    }
-    let mut i: usize = 0;
-    while i < word.len() {
-        if name[i] != word[i] {
-            return false;
-        }
-        i += 1;
-    }
-    true
-}
+// The programs, by the word that the names of their inputs begin with.
+const PROGRAMS: [(&str, Program); 5] = [
+    ("check-", Program::Check),
+    ("arrange-", Program::Arrange),
+    ("change-", Program::Change),
+    ("study-", Program::Study),
+    ("reason-", Program::Reason),
+];
 
 // The program that a name begins with, on the descriptor of its input.
-fn run(name: &[u8], fd: i32) {
-    if begins(name, b"check-") {
-        programs::run(programs::Program::Check, fd);
-    }
-    if begins(name, b"arrange-") {
-        programs::run(programs::Program::Arrange, fd);
-    }
-    if begins(name, b"change-") {
-        programs::run(programs::Program::Change, fd);
-    }
-    if begins(name, b"study-") {
-        programs::run(programs::Program::Study, fd);
-    }
-    if begins(name, b"reason-") {
-        programs::run(programs::Program::Reason, fd);
+fn run(name: &str, fd: i32) {
+    for (word, program) in PROGRAMS {
+        if name.starts_with(word) {
+            let _ = programs::run(program, fd);
+        }
     }
 }
 
@@ -57,7 +42,7 @@ fn one<R: Files<File = File> + AllocGlobal>(rt: &R, name: &str) -> std::io::Resu
     io::write_all(1, b"== ");
     io::write_all(1, name.as_bytes());
     io::write_all(1, b"\n");
-    run(name.as_bytes(), file.as_raw_fd());
+    run(name, file.as_raw_fd());
     Ok(())
 }
 

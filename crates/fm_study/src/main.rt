@@ -2,5 +2,5 @@
 #![tactic(auto)]
 
 fn main() {
-    programs::run(programs::Program::Study, 0);
+    let _ = programs::run(programs::Program::Study, 0);
 }

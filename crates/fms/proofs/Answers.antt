@@ -1,13 +1,13 @@
 -- What an answer in one number tells: its number and its value; that a refusal writes nothing; and that the promise leaves nothing
 -- open. Assumes nothing.
+use Rattle.refusals.specs.Faults.{Answer}
+use Rattle.std.specs.Prelude.{Ok, Err}
 use mathlib.Core.Path.{◌≡◌, refl, sym, ◌∙◌}
 use mathlib.Core.List.{List}
 use Prim.Native.Nat.{ℕ, ◌/◌}
 use native.Mathlib.Omega.{arith}
 use lib.ListN.{length}
 use Rattle.desk.specs.Answers.{Outcome, answer, Answered}
-use Rattle.desk.specs.declared.Answer.{Answer}
-use Rattle.desk.specs.declared.Answer.TheVariants.{Granted, Refused}
 use Rattle.desk.proofs.Answers.{untouched}
 use Rattle.fms.specs.Packed.{Says, Packed}
 
@@ -27,5 +27,5 @@ pub refusal-untouched : (o : Outcome) {entry exit : List ℕ} {r : ℕ} → Pack
 refusal-untouched o {entry} {exit} {r} p n = go (answer o (length entry)) refl p.said
   where
     go : (a : Answer) → answer o (length entry) ≡ a → Says a r → exit ≡ entry
-    go (Granted k) e h = absurd (n h.number)
-    go (Refused f) e h = untouched o (record { said = sym e; held = p.held })
+    go (Ok k) e h = absurd (n h.number)
+    go (Err f) e h = untouched o (record { said = sym e; held = p.held })

@@ -1,17 +1,16 @@
 -- 02, R-2: what the reason for C tells: "clear" and a refusal write nothing, "blocked" fills the four places; and nothing is left
 -- open. Assumes nothing.
+use Rattle.refusals.specs.Faults.{Answer}
+use Rattle.refusals.specs.declared.Fault.{Fault}
 use mathlib.Core.Path.{◌≡◌, sym, ap, ◌∙◌}
 use mathlib.Core.List.{List, [], ◌++◌, append-nil}
 use Prim.Native.Nat.{ℕ}
 use native.Mathlib.Omega.{arith}
 use lib.ListN.{length, drop_of_length-le}
 use lib.Seq.{sets, sets-eq}
-use Rattle.refusals.specs.declared.Refusal.{Refusal}
 use Rattle.desk.specs.Answers.{Outcome, grant, deny}
-use Rattle.desk.specs.declared.Answer.{Answer}
 use Rattle.neighbours.specs.declared.Neighbour.{Neighbour}
-use Rattle.reasons.specs.Reason.{numbers_of, outcome_of}
-use Rattle.reasons.specs.declared.Why.{Why}
+use Rattle.reasons.specs.Reason.{Why, numbers_of, outcome_of}
 use Rattle.fms.specs.Packed.{Says}
 use Rattle.fms.specs.Reason.{located, granted, Explained}
 use Rattle.fms.proofs.Answers.{one_number}
@@ -27,7 +26,7 @@ one_explained a b = (a.held ∙ sym b.held, one_number a.said b.said)
 pub clear-untouched : {s entry exit : List ℕ} {r : ℕ} → Explained s (grant []) entry exit r → exit ≡ entry
 clear-untouched w = w.held
 
-pub refused-untouched : {s entry exit : List ℕ} {f : Refusal} {r : ℕ} → Explained s (deny f) entry exit r → exit ≡ entry
+pub refused-untouched : {s entry exit : List ℕ} {f : Fault} {r : ℕ} → Explained s (deny f) entry exit r → exit ≡ entry
 refused-untouched w = w.held
 
 -- with "blocked" the four places hold id, D, R and column

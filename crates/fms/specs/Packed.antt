@@ -1,21 +1,20 @@
 -- The answers for C, C++ and Rust: one number of 64 bits, in whose high half stands the refusal's number, 0 where granted, and in
 -- whose low half the extra number, or the count or D. Assumes nothing.
-use Rattle.std.specs.Prelude.{◌≡◌, List, ℕ, ◌/◌, ◌%◌, ℤ, length}
-use Rattle.refusals.specs.Faults.{Fault, refusal}
+use Rattle.std.specs.Prelude.{◌≡◌, List, ℕ, ◌/◌, ◌%◌, ℤ, length, Ok, Err}
+use Rattle.refusals.specs.Faults.{Answer, refusal}
+use Rattle.refusals.specs.declared.Fault.{Fault}
 use Rattle.changes.specs.declared.Newcomer.{Newcomer}
 use Rattle.checks.specs.declared.Proposal.{Proposal}
 use Rattle.studies.specs.declared.Wanted.{Wanted}
 use Rattle.desk.specs.Answers.{Outcome, answer, buffer}
-use Rattle.desk.specs.declared.Answer.{Answer}
-use Rattle.desk.specs.declared.Answer.TheVariants.{Granted, Refused}
 
 abbrev pub number_of : Answer → ℕ
-number_of (Granted n) = 0
-number_of (Refused f) = f.number
+number_of (Ok n) = 0
+number_of (Err f) = (refusal f).number
 
 abbrev pub value_of : Answer → ℕ
-value_of (Granted n) = n
-value_of (Refused f) = f.extra
+value_of (Ok n) = n
+value_of (Err f) = (refusal f).extra
 
 -- the promise of a question without a buffer: r is the answer a
 pub record Says (a : Answer) (r : ℕ) : Type 0 where
@@ -24,8 +23,8 @@ pub record Says (a : Answer) (r : ℕ) : Type 0 where
 
 -- granted, or refused with a number of the paper
 pub data Numbered : Answer → Type 0 where
-  granted : (n : ℕ) → Numbered (Granted n)
-  refused : (fault : Fault) → Numbered (Refused (refusal fault))
+  granted : (n : ℕ) → Numbered (Ok n)
+  refused : (fault : Fault) → Numbered (Err fault)
 
 -- the promise of a question with a lent buffer
 pub record Packed (o : Outcome) (entry exit : List ℕ) (r : ℕ) : Type 0 where

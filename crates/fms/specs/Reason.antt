@@ -1,17 +1,16 @@
 -- 02, R-2: the reason for C, C++ and Rust. Assumes nothing.
-use Rattle.std.specs.Prelude.{◌≡◌, List, [], ◌∷◌, ℕ}
+use Rattle.refusals.specs.Faults.{Answer}
+use Rattle.std.specs.Prelude.{◌≡◌, List, [], ◌∷◌, ℕ, Ok, Err}
 use Rattle.std.proofs.lemmas.List.Edits.{sets}
 use Rattle.desk.specs.Answers.{Outcome, grant, deny}
-use Rattle.desk.specs.declared.Answer.{Answer}
-use Rattle.desk.specs.declared.Answer.TheVariants.{Granted, Refused}
 use Rattle.reasons.specs.Reason.{begins_at}
 use Rattle.fms.specs.Packed.{Says}
 
 -- with "clear" the value is 0; with a station that is named, the byte place where its record begins in the table
 abbrev pub located : List ℕ → Outcome → Answer
-located s (grant []) = Granted 0
-located s (grant (id ∷ vs)) = Granted (begins_at s id)
-located s (deny f) = Refused f
+located s (grant []) = Ok 0
+located s (grant (id ∷ vs)) = Ok (begins_at s id)
+located s (deny f) = Err f
 
 -- the numbers that are granted: none with "clear" and with a refusal
 abbrev pub granted : Outcome → List ℕ

@@ -1,4 +1,4 @@
-// The questions for other languages: what include/fms.h declares.
+// The questions for other languages: what include/fms.h declares. Their parameters are loose numbers, as the C interface has them.
 #![tactic(auto)]
 
 ghost use Rattle.std.specs.Prelude.{◌≡◌, ◌/◌, ◌%◌};
@@ -16,30 +16,33 @@ ghost use Rattle.fms.specs.Reason.{located, granted, Explained};
 
 use changes::Newcomer;
 use checks::Proposal;
-use desk::{Answer, Site};
-use reasons::Why;
+use desk::Site;
+use neighbours::Neighbour;
+use refusals::{Fault, Refusal};
 use studies::Wanted;
 
-fn pack(a: Answer) -> u64
+fn pack(a: Result<u32, Fault>) -> u64
     ensures { Says a result }
 {
     match a {
-        Answer::Granted(n) => word(0, n),
-        Answer::Refused(f) => word(f.number, f.extra),
+        Ok(n) => word(0, n),
+        Err(f) => {
+            let told = Refusal::from(f);
+            word(told.number, told.extra)
+        }
     }
 }
 
 fn word(number: u32, value: u32) -> u64
     ensures { (result / 4294967296 ≡ number) × (result % 4294967296 ≡ value) }
 {
-    (number as u64) * 4_294_967_296 + (value as u64)
+    u64::from(number) * 4_294_967_296 + u64::from(value)
 }
 
 pub fn fms_read(table: &[u8]) -> u64
     ensures { Says (read_of table.now) result }
 {
-    let a = desk::read(table);
-    pack(a)
+    pack(desk::read(table))
 }
 
 pub fn fms_distance(lat1: i32, lon1: i32, lat2: i32, lon2: i32) -> u64
@@ -53,8 +56,7 @@ pub fn fms_distance(lat1: i32, lon1: i32, lat2: i32, lon2: i32) -> u64
         latitude: lat2,
         longitude: lon2,
     };
-    let d = desk::distance(a, b);
-    pack(d)
+    pack(desk::distance(a, b))
 }
 
 pub fn fms_add(
@@ -77,22 +79,19 @@ pub fn fms_add(
         latitude: lat,
         longitude: lon,
     };
-    let a = changes::add(table, newcomer, image);
-    pack(a)
+    pack(changes::add(table, newcomer, image))
 }
 
 pub fn fms_withdraw(table: &[u8], id: u32, image: &mut [u8]) -> u64
     ensures { Packed (changed_for table.now (withdrawing id)) image.old image.new result }
 {
-    let a = changes::withdraw(table, id, image);
-    pack(a)
+    pack(changes::withdraw(table, id, image))
 }
 
 pub fn fms_move(table: &[u8], id: u32, channel: u32, image: &mut [u8]) -> u64
     ensures { Packed (changed_for table.now (moving id channel)) image.old image.new result }
 {
-    let a = changes::move_to(table, id, channel, image);
-    pack(a)
+    pack(changes::move_to(table, id, channel, image))
 }
 
 pub fn fms_check(
@@ -117,8 +116,7 @@ pub fn fms_check(
         aside,
         standard,
     };
-    let a = checks::check(table, asked, rows);
-    pack(a)
+    pack(checks::check(table, asked, rows))
 }
 
 pub fn fms_arrange(
@@ -145,36 +143,27 @@ pub fn fms_arrange(
         aside,
         standard,
     };
-    let a = arrangements::arrange(table, asked, rows);
-    pack(a)
+    pack(arrangements::arrange(table, asked, rows))
 }
 
 // Where the station that is named begins in the table; 0 where none is.
-fn locate(table: &[u8], why: Why) -> Answer
+fn locate(table: &[u8], why: Result<Option<Neighbour>, Fault>) -> Result<u32, Fault>
     requires { Names table.now why }
     ensures { result ≡ located table.now (outcome_of why) }
 {
-    match why {
-        Why::Clear => Answer::Granted(0),
-        Why::Blocked(n) => {
-            let at = reasons::begins_at(table, n.id);
-            Answer::Granted(at as u32)
-        }
-        Why::Refused(f) => Answer::Refused(f),
+    match why? {
+        None => Ok(0),
+        Some(n) => Ok(reasons::begins_at(table, n.id) as u32),
     }
 }
 
 // Its four numbers.
-fn put_why(why: Why, reason: &mut [u32; 4])
+fn put_why(why: Result<Option<Neighbour>, Fault>, reason: &mut [u32; 4])
     ensures { reason.new ≡ sets reason.old 0 (granted (outcome_of why)) }
 {
-    let Why::Blocked(n) = why else {
-        return;
-    };
-    reason[0] = n.id;
-    reason[1] = n.distance;
-    reason[2] = n.separation;
-    reason[3] = n.column;
+    if let Ok(Some(n)) = why {
+        *reason = [n.id, n.distance, n.separation, n.column];
+    }
 }
 
 pub fn fms_reason(
@@ -201,8 +190,7 @@ pub fn fms_reason(
     };
     let why = reasons::answer(table, proposed);
     put_why(why, reason);
-    let a = locate(table, why);
-    pack(a)
+    pack(locate(table, why))
 }
 
 // The limit that S is held to for two classes in any order, at a column; 0 where there is none.

@@ -1,13 +1,13 @@
 -- What a span holds, by the bits of the coordinates, over the 180th meridian too; and why nobody outside of a frame is short.
 -- Assumes nothing.
-use Rattle.std.proofs.Common.{◌≡◌, ℕ, zero, suc, ◌+◌, ◌-◌, ◌*◌, ◌%◌, ◌<◌, ◌≤◌, true, false, ◌⊎◌, ℤ, pos, negsuc, ◌-ℤ◌, nat_abs, sym, ap, ◌∙◌, inl, inr, ⊎_elim, true≢false, mod-lt, arith, lit<, lit≤, w32, SFits, of_z, ltb-false, ltb-true, le-ltb}
+use Rattle.std.proofs.Common.{◌≡◌, ℕ, zero, suc, ◌+◌, ◌-◌, ◌*◌, ◌%◌, ◌<◌, ◌≤◌, true, false, ◌⊎◌, ℤ, pos, negsuc, ◌-ℤ◌, nat_abs, sym, ap, ◌∙◌, inl, inr, ⊎_elim, true≢false, mod-lt, arith, lit<, lit≤, w32, of_z, ltb-false, ltb-true, le-ltb}
 use native.Mathlib.Nat.{mod-add-mod}
 use native.Mathlib.Decide.{dec_lt}
-use Rattle.ground.proofs.Signed.{fit32, sub_size}
+use Rattle.ground.proofs.Signed.{sub_size}
 use Rattle.distance.specs.Distance.{lat_gap, lon_gap, Placed}
 use Rattle.distance.specs.Meridian.{SmallerWay}
 use Rattle.distance.proofs.Meridian.{smaller_way}
-use Rattle.spacing.specs.Reaching.{Seconds, Fair, Surrounds}
+use Rattle.spacing.specs.Reaching.{Seconds, Surrounds}
 use Rattle.spacing.specs.declared.Around.{Around}
 use Rattle.spacing.specs.declared.Place.{Place}
 use Rattle.framing.specs.Frames.{less, past, Centred, Holds, Encloses}
@@ -16,10 +16,10 @@ use Rattle.framing.specs.declared.Frame.{Frame}
 
 -- ---- bits
 
--- what comes back to x with n added
-pub less_is : (r n x : ℕ) → r < 4294967296 → n < 4294967296 → (r + n) % 4294967296 ≡ x → r ≡ less x n
+-- as a wrapping subtraction says it
+pub less_by : (x n : ℕ) → n ≤ 4294967296 → (x + (4294967296 - n)) % 4294967296 ≡ less x n
 unfolding less
-less_is r n x h k e = omega arith
+less_by x n h = ap (λ (k : ℕ). k % 4294967296) (omega arith)
 
 less_lt : (x n : ℕ) → less x n < 4294967296
 unfolding less
@@ -170,13 +170,6 @@ module _ {z : ℤ} (hz : nat_abs z ≤ 648000) {far : ℕ} (w : Seconds far) {s 
         go y hy (inr l) = inl (omega (arith, west_gap z y hz hy, w.most, west_inside e))
 
 -- ---- sites outside of a frame
-
--- the middle of a box fits 32 bits
-pub lat_fits : {a : Around} → Fair a → SFits w32 a.latitude
-lat_fits {a} f = fit32 a.latitude (omega (arith, f.middle.north))
-
-pub lon_fits : {a : Around} → Fair a → SFits w32 a.longitude
-lon_fits {a} f = fit32 a.longitude (omega (arith, f.middle.east))
 
 -- what is not in a span is at least `far` away
 far_off : {gap : ℤ → ℕ} {far : ℕ} {s : Span} → Holds gap far s → (y : ℤ) → nat_abs y ≤ 648000 → past s (of_z w32 y) ≡ true → far ≤ gap y

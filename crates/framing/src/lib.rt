@@ -30,11 +30,13 @@ const CIRCLE: u32 = 1_296_000;
 // From the bits of the eastern end of the longitudes up to those of the western end: 2^32 less the circle.
 const BETWEEN: u32 = 4_293_671_296;
 
-// Whether bits lie outside of a span: one subtraction and one comparison.
-pub fn away(x: u32, span: Span) -> bool
-    ensures { result ≡ past span x }
-{
-    span.size < std::num::wrapping_sub_u32(x, span.low)
+impl Span {
+    // Whether bits lie outside: one subtraction and one comparison.
+    pub fn away(self, x: u32) -> bool
+        ensures { result ≡ past self x }
+    {
+        self.size < x.wrapping_sub(self.low)
+    }
 }
 
 // The numbers less than `far` from z.
@@ -43,9 +45,10 @@ fn centred(z: i32, far: u32) -> Span
     ensures { Centred z far result }
 {
     let reach = far - 1;
-    let low = std::num::wrapping_sub_u32(wire::bits(z), reach);
-    let size = 2 * reach;
-    Span { low, size }
+    Span {
+        low: z.cast_unsigned().wrapping_sub(reach),
+        size: 2 * reach,
+    }
 }
 
 // The longitudes less than `far` from one, the short way round. A span that comes to one end of the longitudes goes on at the
@@ -55,28 +58,32 @@ fn longitudes_near(lon: i32, far: u32) -> Span
     ensures { Holds (lon_gap lon) far result }
 {
     let plain = centred(lon, far);
-    let low = plain.low;
     let size = plain.size + BETWEEN;
-    if !away(wire::bits(648_000), plain) {
-        return Span { low, size };
-    }
-    if !away(wire::bits(-648_000), plain) {
+    if !plain.away(648_000_i32.cast_unsigned()) {
         return Span {
-            low: std::num::wrapping_add_u32(low, CIRCLE),
+            low: plain.low,
+            size,
+        };
+    }
+    if !plain.away((-648_000_i32).cast_unsigned()) {
+        return Span {
+            low: plain.low.wrapping_add(CIRCLE),
             size,
         };
     }
     plain
 }
 
-// The frame around a class at a site, made once for a walk.
-pub fn frame_around(p: Place, limits: &Limits) -> Frame
-    requires { (ByTable p limits.now) × (InRange p) }
-    ensures { (km : ℕ → ℕ → ℕ → ℕ) → Limited km p limits.now → Encloses km p result }
-{
-    let around = spacing::box_around(p, limits);
-    Frame {
-        latitudes: centred(around.latitude, around.up),
-        longitudes: longitudes_near(around.longitude, around.across),
+impl Frame {
+    // The frame around a class at a site, made once for a walk.
+    pub fn around(p: Place, limits: &Limits) -> Frame
+        requires { (ByTable p limits.now) × (InRange p) }
+        ensures { (km : ℕ → ℕ → ℕ → ℕ) → Limited km p limits.now → Encloses km p result }
+    {
+        let around = limits.box_around(p);
+        Frame {
+            latitudes: centred(around.latitude, around.up),
+            longitudes: longitudes_near(around.longitude, around.across),
+        }
     }
 }

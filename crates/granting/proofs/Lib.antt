@@ -1,2 +1,2 @@
-pub mod Images
-pub mod Plan
+pub mod Splicing
+pub mod Lists

@@ -1,33 +1,45 @@
 // Rows of three numbers, written into a lent buffer as far as it reaches.
 #![tactic(auto)]
 
-ghost use Rattle.std.specs.Prelude.{◌≡◌, cond, [], ◌∷◌, ◌≤◌, set};
-ghost use Rattle.ground.specs.Writing.{Wrote};
+ghost use Rattle.std.specs.Prelude.{◌≡◌, ◌≤◌, set};
+ghost use Rattle.ground.specs.Puts.{Puts};
+
+// A buffer, and the place after the rows that were written into it.
+#[derive(Drop)]
+pub struct Rows<'a> {
+    pub buffer: &'a mut [u32],
+    pub at: usize,
+}
 
 // One number at a place, where that is within the buffer.
-pub fn put(rows: &mut [u32], at: usize, v: u32)
-    ensures { rows.new ≡ set rows.old at v }
+fn store(buffer: &mut [u32], at: usize, v: u32)
+    ensures { buffer.new ≡ set buffer.old at v }
 {
-    if at < rows.len() {
-        rows[at] = v;
+    if at < buffer.len() {
+        buffer[at] = v;
     }
 }
 
-// One row; answers the place after it.
-pub fn put_row(rows: &mut [u32], at: usize, a: u32, b: u32, c: u32) -> usize
-    requires { at ≤ 1000000 }
-    ensures { Wrote (a ∷ b ∷ c ∷ []) rows.old at rows.new result }
-{
-    put(rows, at, a);
-    put(rows, at + 1, b);
-    put(rows, at + 2, c);
-    at + 3
-}
+impl<'a> Rows<'a> {
+    // No rows yet, at the buffer's start.
+    pub fn new(buffer: &'a mut [u32]) -> Rows<'a>
+        ensures same_reference { result.buffer.ghost_name ≡ buffer.entry.ghost_name }
+        ensures unchanged { result.buffer.now ≡ buffer.old }
+        ensures start { result.at ≡ 0 }
+    {
+        Rows { buffer, at: 0 }
+    }
 
-// One row, where the test says so.
-pub fn put_row_if(yes: bool, rows: &mut [u32], at: usize, a: u32, b: u32, c: u32) -> usize
-    requires { at ≤ 1000000 }
-    ensures { Wrote (cond yes (a ∷ b ∷ c ∷ []) []) rows.old at rows.new result }
-{
-    if yes { put_row(rows, at, a, b, c) } else { at }
+    // One row behind the others.
+    pub fn put(&mut self, row: [u32; 3])
+        requires { self.old.at ≤ 1000000 }
+        ensures { Puts row self.old self.new }
+    {
+        let at = self.at;
+        let [a, b, c] = row;
+        store(self.buffer, at, a);
+        store(self.buffer, at + 1, b);
+        store(self.buffer, at + 2, c);
+        self.at = at + 3;
+    }
 }

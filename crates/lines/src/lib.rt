@@ -1,114 +1,94 @@
-// Lines of decimal numbers, put into a buffer of bytes.
+// Lines of decimal numbers, put behind the text in a buffer of bytes.
 #![tactic(auto)]
 
-ghost use Rattle.std.specs.Prelude.{◌+◌, ◌-◌, ◌*◌, ◌≤◌, length, [], ◌∷◌};
+ghost use Rattle.std.specs.Prelude.{◌+◌, ◌*◌, ◌/◌, ◌≤◌, length};
 ghost use Rattle.ground.specs.Lists.{span, each};
-ghost use Rattle.ground.specs.Writing.{Wrote};
-ghost use Rattle.lines.specs.Lines.{number_then, ended, row_line, numbers_line, clear_line, short_line, refused_line, line_at};
+ghost use Rattle.lines.specs.Lines.{number_then, numbers_line, clear_line, short_line, refused_line, line_at};
+ghost use Rattle.lines.specs.Puts.{Puts};
 
 use refusals::Refusal;
+use streams::Text;
 
 // The longest line of three numbers of ten digits, and the byte after each; and that of five.
 pub const LINE: usize = 33;
 
 pub const REASON_LINE: usize = 55;
 
-// A word; answers the place after it.
-fn put_word(text: &mut [u8], at: usize, word: &[u8]) -> usize
-    requires { at + length word.now ≤ length text.old }
-    ensures { Wrote word.now text.old at text.new result }
+// A word.
+fn put_word(text: &mut Text, word: &[u8])
+    requires { text.old.at + length word.now ≤ length text.old.bytes.now }
+    ensures { Puts word.now text.old text.new }
 {
-    let count = word.len();
-    stations::copy(word, 0, text, at, count);
-    at + count
+    let end = text.at + word.len();
+    text.bytes[text.at..end].copy_from_slice(word);
+    text.at = end;
 }
 
-// A number in decimal and the byte after it; answers the place after that.
-fn put_number(text: &mut [u8], at: usize, n: u32, byte: u8) -> usize
-    requires { at + 11 ≤ length text.old }
-    ensures wrote { Wrote (number_then n byte) text.old at text.new result }
-    ensures upper_bound { result ≤ at + 11 }
+// A number in decimal and the byte after it.
+fn put_number(text: &mut Text, n: u32, byte: u8)
+    requires { text.old.at + 11 ≤ length text.old.bytes.now }
+    ensures puts { Puts (number_then n byte) text.old text.new }
+    ensures upper_bound { text.new.at ≤ text.old.at + 11 }
 {
     let mut digits = [0u8; 20];
-    let count = io::decimal(n as u64, &mut digits);
-    let next = put_word(text, at, &digits[..count]);
-    text[next] = byte;
-    next + 1
+    let count = io::decimal(u64::from(n), &mut digits);
+    put_word(text, &digits[..count]);
+    put_word(text, &[byte]);
 }
 
-// A line of one number.
-pub fn put_single(text: &mut [u8], at: usize, n: u32) -> usize
-    requires { at + 33 ≤ length text.old }
-    ensures wrote { Wrote (ended n) text.old at text.new result }
-    ensures upper_bound { result ≤ at + 33 }
+// A line of numbers.
+pub fn put_numbers(text: &mut Text, numbers: &[u32])
+    requires { text.old.at + 11 * length numbers.now ≤ length text.old.bytes.now }
+    ensures puts { Puts (numbers_line numbers.now) text.old text.new }
+    ensures upper_bound { text.new.at ≤ text.old.at + 11 * length numbers.now }
 {
-    put_number(text, at, n, b'\n')
-}
-
-// A line of three numbers.
-fn put_numbers(text: &mut [u8], at: usize, a: u32, b: u32, c: u32) -> usize
-    requires { at + 33 ≤ length text.old }
-    ensures wrote { Wrote (row_line a b c) text.old at text.new result }
-    ensures upper_bound { result ≤ at + 33 }
-{
-    let second = put_number(text, at, a, b' ');
-    let third = put_number(text, second, b, b' ');
-    put_number(text, third, c, b'\n')
-}
-
-// A line of five numbers.
-pub fn put_reason(text: &mut [u8], at: usize, a: u32, b: u32, c: u32, d: u32, e: u32) -> usize
-    requires { at + 55 ≤ length text.old }
-    ensures wrote { Wrote (numbers_line (a ∷ b ∷ c ∷ d ∷ e ∷ [])) text.old at text.new result }
-    ensures upper_bound { result ≤ at + 55 }
-{
-    let second = put_number(text, at, a, b' ');
-    let rest = put_number(text, second, b, b' ');
-    put_numbers(text, rest, c, d, e)
+    let Some((last, before)) = numbers.split_last() else {
+        return;
+    };
+    for number in before {
+        put_number(text, *number, b' ');
+    }
+    put_number(text, *last, b'\n');
 }
 
 // The line `clear`.
-pub fn put_clear(text: &mut [u8], at: usize) -> usize
-    requires { at + 33 ≤ length text.old }
-    ensures wrote { Wrote clear_line text.old at text.new result }
-    ensures upper_bound { result ≤ at + 33 }
+pub fn put_clear(text: &mut Text)
+    requires { text.old.at + 33 ≤ length text.old.bytes.now }
+    ensures puts { Puts clear_line text.old text.new }
+    ensures upper_bound { text.new.at ≤ text.old.at + 33 }
 {
-    put_word(text, at, b"clear\n")
+    put_word(text, b"clear\n");
 }
 
-// The lines of the rows from one to before another.
-pub fn put_lines(text: &mut [u8], at: usize, rows: &[u32], from: usize, to: usize) -> usize
-    requires { (from ≤ to) × ((3 * to ≤ length rows.now) × (at + 33 * (to - from) ≤ length text.old)) }
-    ensures wrote { Wrote (each (line_at rows.now) (span from (to - from))) text.old at text.new result }
-    ensures upper_bound { result ≤ at + 33 * (to - from) }
+// The lines of rows, whose numbers come in threes.
+pub fn put_lines(text: &mut Text, rows: &[u32])
+    requires { text.old.at + 33 * (length rows.now / 3) ≤ length text.old.bytes.now }
+    ensures puts { Puts (each (line_at rows.now) (span 0 (length rows.now / 3))) text.old text.new }
+    ensures upper_bound { text.new.at ≤ text.old.at + 33 * (length rows.now / 3) }
 {
-    let mut next = at;
-    let mut i = from;
-    while i < to {
+    for i in 0..rows.len() / 3 {
         let k = 3 * i;
-        next = put_numbers(text, next, rows[k], rows[k + 1], rows[k + 2]);
-        i += 1;
+        put_numbers(text, &[rows[k], rows[k + 1], rows[k + 2]]);
     }
-    next
 }
 
 // The line `short K`.
-pub fn put_heading(text: &mut [u8], at: usize, k: u32) -> usize
-    requires { at + 33 ≤ length text.old }
-    ensures wrote { Wrote (short_line k) text.old at text.new result }
-    ensures upper_bound { result ≤ at + 33 }
+pub fn put_heading(text: &mut Text, k: u32)
+    requires { text.old.at + 33 ≤ length text.old.bytes.now }
+    ensures puts { Puts (short_line k) text.old text.new }
+    ensures upper_bound { text.new.at ≤ text.old.at + 33 }
 {
-    let next = put_word(text, at, b"short ");
-    put_number(text, next, k, b'\n')
+    put_word(text, b"short ");
+    put_number(text, k, b'\n');
 }
 
 // The line `refused N P`.
-pub fn put_refusal(text: &mut [u8], at: usize, refusal: Refusal) -> usize
-    requires { at + 33 ≤ length text.old }
-    ensures wrote { Wrote (refused_line refusal) text.old at text.new result }
-    ensures upper_bound { result ≤ at + 33 }
+pub fn put_refusal(text: &mut Text, refusal: Refusal)
+    requires { text.old.at + 33 ≤ length text.old.bytes.now }
+    ensures puts { Puts (refused_line refusal) text.old text.new }
+    ensures upper_bound { text.new.at ≤ text.old.at + 33 }
 {
-    let number = put_word(text, at, b"refused ");
-    let extra = put_number(text, number, refusal.number, b' ');
-    put_number(text, extra, refusal.extra, b'\n')
+    put_word(text, b"refused ");
+    put_number(text, refusal.number, b' ');
+    put_number(text, refusal.extra, b'\n');
 }

@@ -1,12 +1,12 @@
 -- The channels that one station reaches: bands around its own, and 53 and 54 away on both sides. Assumes nothing.
 use mathlib.Core.Path.{◌≡◌, refl, sym, ◌∙◌}
-use mathlib.Core.Bool.{Bool, true, false, ◌&&◌, ◌||◌, true≢false, or-true, or-false, and-true, and-false, or_assoc}
+use mathlib.Core.Bool.{Bool, true, false, ◌&&◌, ◌||◌, or-true, or-false, and-true, and-false, or_assoc}
 use mathlib.Core.Logic.{◌⊎◌, inl, inr, ⊎_elim}
-use Prim.Native.Nat.{ℕ, ◌+◌, ◌-◌, ◌≤◌, ◌<◌, max, min}
+use Prim.Native.Nat.{ℕ, ◌+◌, ◌-◌, ◌≤◌, ◌<◌}
 use native.Mathlib.Omega.{arith}
 use native.Mathlib.Decide.{ℕ_discrete, dec_lt}
 use lib.Dec.{leb, ltb, eqb}
-use borrow.Author.Tests.{lt-ltb, le-ltb, le-leb, eq-eqb, leb-true, ltb-true, eqb-true}
+use borrow.Author.Tests.{lt-ltb, le-leb, eq-eqb, leb-true, ltb-true, eqb-true}
 use Rattle.ground.proofs.Guards.{and_was, or_first}
 use Rattle.ground.proofs.Tests.{iff}
 use Rattle.part73.specs.Columns.{gap}
@@ -38,39 +38,6 @@ outside : (low high m : ℕ) → (low ≤ m → m ≤ high → ⊥) → (leb low
 outside low high m f =
     never (leb low m && leb m high)
     (λ q. let h = and_was (leb low m) (leb m high) q in f (leb-true low m h.0) (leb-true m high h.1))
-
-passed : (low x m : ℕ) → low ≤ x → x < m → (leb low x && ltb x m) ≡ true
-passed low x m a b = rw (le-leb low x a, lt-ltb x m b)
-
-module _ (low : ℕ) where
-  pub band-start : (m x : ℕ) → m ≡ max 221 low → 221 ≤ x → false ≡ (leb low x && ltb x m)
-  band-start m x e l =
-      sym (never (leb low x && ltb x m)
-      (λ q. let h = and_was (leb low x) (ltb x m) q in omega (arith, leb-true low x h.0, ltb-true x m h.1)))
-
-  pub band-here : (m : ℕ) → (leb low m && ltb m m) ≡ false
-  band-here m = rw (le-ltb m m (omega arith)) (and-false (leb low m))
-
-  pub band_turn : (m x : ℕ) → low ≤ m → ((leb low x && ltb x m) || eqb x m) ≡ (leb low x && ltb x (m + 1))
-  band_turn m x l =
-      iff ((leb low x && ltb x m) || eqb x m) (leb low x && ltb x (m + 1))
-      (λ q. ⊎_elim
-      (λ p. let h = and_was (leb low x) (ltb x m) p in passed low x (m + 1) (leb-true low x h.0) (omega (arith, ltb-true x m h.1)))
-      (λ p. let e = eqb-true x m p in passed low x (m + 1) (omega arith) (omega arith))
-      (either (leb low x && ltb x m) (eqb x m) q))
-      (λ q. let h = and_was (leb low x) (ltb x (m + 1)) q in go (leb-true low x h.0) (ltb-true x (m + 1) h.1) (ℕ_discrete x m))
-    where
-      go : low ≤ x → x < m + 1 → Dec (x ≡ m) → ((leb low x && ltb x m) || eqb x m) ≡ true
-      go a b (yes e) = or_last (leb low x && ltb x m) (eqb x m) (eq-eqb x m e)
-      go a b (no ne) = or_first (leb low x && ltb x m) (eqb x m) (passed low x m a (omega arith))
-
-  pub band_end : (high m x : ℕ) → m ≤ max (max 221 low) (min 300 high + 1) → min 300 high < m → 221 ≤ x → x ≤ 300 → (leb low x && ltb x m) ≡ (leb low x && leb x high)
-  band_end high m x top past l h =
-      iff (leb low x && ltb x m) (leb low x && leb x high)
-      (λ q. let t = and_was (leb low x) (ltb x m) q in
-      within low high x (leb-true low x t.0) (omega (arith, leb-true low x t.0, ltb-true x m t.1)))
-      (λ q. let t = and_was (leb low x) (leb x high) q in
-      passed low x m (leb-true low x t.0) (omega (arith, leb-true x high t.1)))
 
 -- ---- the bands of one station
 
@@ -138,10 +105,6 @@ module _ (c : ℕ) (r : Reach) (low : 201 ≤ c) (most : r.steps ≤ 4) where
 -- ---- a channel that has no requirement against any of a range
 
 module _ (c : ℕ) (channels : Channels) where
-  -- a channel that is let through
-  pub let_through : Touches c channels true
-  let_through = record { none_of = λ e. absurd (true≢false e) }
-
   -- none where every difference in the range is over 3 and neither 53 nor 54
   pub untouched : (r : Bool) → (r ≡ false → (m : ℕ) → channels.first ≤ m → m ≤ channels.last → (3 < gap m c) × ((gap m c ≡ 53 → ⊥) × (gap m c ≡ 54 → ⊥))) → Touches c channels r
   untouched r f = record { none_of = λ q m a b. let h = f q m a b in column_none (gap m c) h.0 h.1.0 h.1.1 }

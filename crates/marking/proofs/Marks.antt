@@ -1,15 +1,12 @@
 -- Marks on the channels of a range: one station more, and a pass over all of them. Assumes nothing.
 use mathlib.Core.Path.{◌≡◌, refl, sym, ap, ◌∙◌}
-use mathlib.Core.Bool.{Bool, true, false, cond, ◌||◌, or-false, true≢false}
+use mathlib.Core.Bool.{Bool, true, false, cond, ◌||◌, true≢false}
 use mathlib.Core.List.{List}
 use Prim.Native.Nat.{ℕ, zero, suc, ◌+◌, ◌-◌, ◌≤◌, ◌<◌}
 use native.Mathlib.Numerals.{add-one}
 use native.Mathlib.Omega.{arith}
 use native.Mathlib.Decide.{ℕ_discrete}
-use lib.Dec.{eqb}
-use lib.ListN.{length, get_or, set, length-set}
-use lib.Seq.{get_or-set_same, get_or-set_other}
-use borrow.Author.Tests.{eq-eqb, ne_eqb}
+use lib.ListN.{length, get_or}
 use Rattle.marking.specs.Marks.{join, seen, Marked, Struck, Wiped}
 
 -- ---- one station
@@ -27,21 +24,6 @@ struck_as {who} {entry} e s =
 -- a part of the range
 pub struck_part : {hit : ℕ → Bool} {first last who : ℕ} {entry exit : List ℕ} → 221 ≤ first → last ≤ 300 → Struck hit 221 300 who entry exit → Struck hit first last who entry exit
 struck_part a b s = record { long = s.long; at = λ m lo hi. s.at m (omega arith) (omega arith) }
-
--- one channel more
-pub struck_one : {hit : ℕ → Bool} {who : ℕ} {entry exit : List ℕ} {v m : ℕ} → Struck hit 221 300 who entry exit → 221 ≤ m → m ≤ 300 → hit m ≡ false → v ≡ join (get_or exit (m - 221) 0) who
-    → Struck (λ x. hit x || eqb x m) 221 300 who entry (set exit (m - 221) v)
-struck_one {hit} {who} {entry} {exit} {v} {m} s lo hi no_hit e =
-    record { long = length-set exit (m - 221) v ∙ s.long; at = λ x l h. go x l h (ℕ_discrete x m) }
-  where
-    was : get_or exit (m - 221) 0 ≡ get_or entry (m - 221) 0
-    was = s.at m lo hi ∙ rw no_hit
-
-    go : (x : ℕ) → 221 ≤ x → x ≤ 300 → Dec (x ≡ m) → get_or (set exit (m - 221) v) (x - 221) 0 ≡ cond (hit x || eqb x m) (join (get_or entry (x - 221) 0) who) (get_or entry (x - 221) 0)
-    go x l h (yes p) =
-        rw (p, no_hit, eq-eqb m m refl) (get_or-set_same exit (m - 221) v 0 (omega (arith, s.long)) ∙ e ∙ ap (λ (t : ℕ). join t who) was)
-    go x l h (no np) =
-        get_or-set_other exit (m - 221) (x - 221) v 0 (λ p. np (omega arith)) ∙ s.at x l h ∙ rw (ne_eqb x m np, or-false (hit x))
 
 -- one after the other, on different channels
 pub struck_both : {hit more : ℕ → Bool} {first last who : ℕ} {entry middle exit : List ℕ} → ((m : ℕ) → first ≤ m → m ≤ last → more m ≡ true → hit m ≡ false)

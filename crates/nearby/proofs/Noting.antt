@@ -6,24 +6,20 @@ use Prim.Native.Nat.{ℕ, zero, suc, ◌+◌, ◌-◌, ◌≤◌, ◌<◌}
 use native.Mathlib.Nat.{add-zero}
 use native.Mathlib.Numerals.{add-one}
 use native.Mathlib.Omega.{arith}
-use lib.ListN.{length, take, set, length-set}
-use lib.Seq.{take-suc-set, length-take-le}
+use lib.ListN.{length, length-append}
 use Rattle.ground.specs.Lists.{span, keep}
 use Rattle.ground.proofs.Spans.{span_cons, span-done}
-use Rattle.versions.specs.Version.{limit}
-use Rattle.nearby.specs.Positions.{Noted}
 
--- what is noted of the numbers below i, and those from i to n that pass, are vs
-pub record Noting (p : ℕ → Bool) (vs : List ℕ) (n : ℕ) (hits : List ℕ) (k i : ℕ) : Type 0 where
-  pub long : length hits ≡ limit
+-- what is noted of the numbers below i, and those from i to n that pass, are all that pass
+pub record Noting (p : ℕ → Bool) (n : ℕ) (noted : List ℕ) (i : ℕ) : Type 0 where
   pub upto : i ≤ n
-  pub few : k ≤ i
-  pub holds : take k hits ++ keep p (span i (n - i)) ≡ vs
+  pub few : length noted ≤ i
+  pub holds : noted ++ keep p (span i (n - i)) ≡ keep p (span 0 n)
 
-pub note-start : (p : ℕ → Bool) (n : ℕ) (hits : List ℕ) → length hits ≡ limit → Noting p (keep p (span 0 n)) n hits 0 0
-note-start p n hits e =
+pub note-start : (p : ℕ → Bool) (n : ℕ) → Noting p n [] 0
+note-start p n =
     let z : n - 0 ≡ n = omega arith in
-    record { long = e; upto = omega arith; few = omega arith; holds = ap (λ (m : ℕ). keep p (span 0 m)) z }
+    record { upto = omega arith; few = omega arith; holds = ap (λ (m : ℕ). keep p (span 0 m)) z }
 
 -- numbers that do not pass, left out
 keep_skip : (p : ℕ → Bool) (n d i : ℕ) → i + d ≤ n → ((j : ℕ) → i ≤ j → j < i + d → p j ≡ false) → keep p (span i (n - i)) ≡ keep p (span (i + d) (n - (i + d)))
@@ -36,37 +32,30 @@ keep_skip p n (suc d) i h f =
     ∙ keep_skip p n d (suc i) (omega arith) (λ j l u. f j (omega arith) (omega arith))
     ∙ ap (λ (m : ℕ). keep p (span m (n - m))) e
 
-module _ {p : ℕ → Bool} {vs : List ℕ} {n : ℕ} where
-  pub note_skip : {hits : List ℕ} {k i : ℕ} (to : ℕ) → i ≤ to → to ≤ n → ((j : ℕ) → i ≤ j → j < to → p j ≡ false) → Noting p vs n hits k i → Noting p vs n hits k to
-  note_skip {hits} {k} {i} to h l f w =
+module _ {p : ℕ → Bool} {n : ℕ} where
+  pub note_skip : {noted : List ℕ} {i : ℕ} (to : ℕ) → i ≤ to → to ≤ n → ((j : ℕ) → i ≤ j → j < to → p j ≡ false) → Noting p n noted i → Noting p n noted to
+  note_skip {noted} {i} to h l f w =
       let e : i + (to - i) ≡ to = omega arith in
       let q : keep p (span i (n - i)) ≡ keep p (span to (n - to)) =
       keep_skip p n (to - i) i (omega arith) (λ j a u. f j a (omega arith)) ∙ ap (λ (m : ℕ). keep p (span m (n - m))) e in
-      record { long = w.long; upto = l; few = omega (arith, w.few); holds = ap (λ (m : List ℕ). take k hits ++ m) (sym q) ∙ w.holds }
+      record { upto = l; few = omega (arith, w.few); holds = ap (λ (m : List ℕ). noted ++ m) (sym q) ∙ w.holds }
 
   -- one that passes is noted
-  pub note_turn : {hits : List ℕ} {k i : ℕ} → n ≤ limit → i < n → p i ≡ true → Noting p vs n hits k i → Noting p vs n (set hits k i) (k + 1) (i + 1)
+  pub note_turn : {noted : List ℕ} {i : ℕ} → i < n → p i ≡ true → Noting p n noted i → Noting p n (noted ++ (i ∷ [])) (i + 1)
   unfolding keep
-  note_turn {hits} {k} {i} m h e w =
-      let b : k < length hits = omega (arith, w.long, w.few) in
+  note_turn {noted} {i} h e w =
       let r : List ℕ = keep p (span (suc i) (n - suc i)) in
       let q : keep p (span i (n - i)) ≡ i ∷ r = rw (span_cons i n h, e) in
       record {
-        long = length-set hits k i ∙ w.long;
         upto = omega arith;
-        few = omega (arith, w.few);
+        few = omega (arith, w.few, length-append noted (i ∷ []));
         holds =
-            rw (add-one i, add-one k, take-suc-set hits k i b, append_assoc (take k hits) (i ∷ []) r)
-            (ap (λ (l : List ℕ). take k hits ++ l) (sym q) ∙ w.holds);
+            rw (add-one i, append_assoc noted (i ∷ []) r)
+            (ap (λ (l : List ℕ). noted ++ l) (sym q) ∙ w.holds);
       }
 
-  pub note_end : {hits : List ℕ} {k i : ℕ} → n ≤ limit → n ≤ i → Noting p vs n hits k i → Noted vs hits k
+  pub note_end : {noted : List ℕ} → Noting p n noted n → noted ≡ keep p (span 0 n)
   unfolding keep
-  note_end {hits} {k} {i} m h w =
-      let e : keep p (span i (n - i)) ≡ [] = ap (keep p) (span-done i n h) in
-      let q : take k hits ≡ vs = sym (append-nil (take k hits)) ∙ ap (λ (l : List ℕ). take k hits ++ l) (sym e) ∙ w.holds in
-      record {
-        long = w.long;
-        many = sym (ap length (sym q) ∙ length-take-le k hits (omega (arith, w.long, w.few, w.upto)));
-        holds = q;
-      }
+  note_end {noted} w =
+      let e : keep p (span n (n - n)) ≡ [] = ap (keep p) (span-done n n (omega arith)) in
+      sym (append-nil noted) ∙ ap (λ (l : List ℕ). noted ++ l) (sym e) ∙ w.holds

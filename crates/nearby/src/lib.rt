@@ -2,64 +2,94 @@
 // and their positions.
 #![tactic(auto)]
 
+ghost use Rattle.std.specs.Prelude.{◌≡◌, false, not, ◌%◌, ◌≤◌, ◌<◌, get_or};
 ghost use Rattle.spacing.specs.Pair.{sited};
+ghost use Rattle.stations.specs.Image.{station_at, count};
 ghost use Rattle.survey.specs.Ways.{looked, chosen_for};
-ghost use Rattle.nearby.specs.Positions.{short_positions, Search, NextShort, Notes, Noted};
+ghost use Rattle.nearby.specs.Positions.{short_positions, Asked, Free, NextHeld, NextShort};
 
 mod nearness;
 
-pub use nearness::free_of;
-use nearness::next_held;
-use spacing::{Limits, Place};
-use survey::Terms;
+use arrayvec::ArrayVec;
+use nearness::free_of;
+use survey::{Study, Walk};
+use versions::LIMIT;
 
-// No position of a table.
-pub const NO_POSITION: u16 = versions::LIMIT as u16;
-
-// The first position from one on whose record is looked at and the station is short to; the count where there is none.
-pub fn next_short(
-    table: &[u8],
-    from: usize,
-    terms: Terms,
+// The search for the records that the station that is studied, on a channel, is short to.
+#[derive(Clone, Copy)]
+pub struct Search<'a> {
+    walk: Walk<'a>,
     channel: usize,
-    place: Place,
-    limits: &Limits,
-    free: &[bool; 256],
-) -> usize
-    requires { Search table.now from terms channel place limits.now free.now }
-    ensures { NextShort (chosen_for terms) (looked terms) table.now (sited place channel) from result }
-{
-    let n = stations::count_of(table);
-    let mut i = next_held(table, from, free);
-    while i < n {
-        if survey::short_at(table, i, terms, channel, place, limits) {
-            return i;
+    // For each channel, at its number's last byte, whether no column applies to it and this one.
+    free: [bool; 256],
+    ghost tells: { Free channel free },
+}
+
+impl<'a> Search<'a> {
+    pub fn of(study: &Study<'a>, channel: usize) -> Search<'a>
+        requires { Asked channel }
+        ensures table { result.walk.study.table.image.now ≡ study.now.table.image.now }
+        ensures terms { result.walk.study.terms ≡ study.now.terms }
+        ensures place { result.walk.study.place ≡ study.now.place }
+        ensures channel { result.channel ≡ channel }
+    {
+        Search {
+            walk: Walk::of(study),
+            channel,
+            free: free_of(channel),
         }
-        i = next_held(table, i + 1, free);
     }
-    i
+
+    // Whether the channel of the record at position i is free.
+    fn is_free(&self, i: usize) -> bool
+        requires { i < count self.now.walk.study.table.image.now }
+        ensures { result ≡ get_or self.now.free ((station_at self.now.walk.study.table.image.now i).channel % 256) false }
+    {
+        let r = self.walk.study.table.station_at(i);
+        self.free[r.channel as usize % 256]
+    }
+
+    // The first position from one on whose record's channel is not free.
+    fn next_held(&self, from: usize) -> Option<usize>
+        requires { from ≤ count self.now.walk.study.table.image.now }
+        ensures { NextHeld self.now.walk.study.table.image.now self.now.free from result }
+    {
+        self.walk.study.table.next_where(
+            from,
+            |i: usize| -> bool
+                requires { i < count self.now.walk.study.table.image.now }
+                ensures { result ≡ not (get_or self.entry.now.free ((station_at self.entry.now.walk.study.table.image.now i).channel % 256) false) }
+            { !self.is_free(i) },
+        )
+    }
+
+    // The first position from one on whose record is looked at and the station is short to.
+    pub fn next(&self, from: usize) -> Option<usize>
+        requires { from ≤ count self.now.walk.study.table.image.now }
+        ensures { let s = self.now.walk.study in NextShort (chosen_for s.terms) (looked s.terms) s.table.image.now (sited s.place self.now.channel) from result }
+    {
+        let mut from = from;
+        while let Some(i) = self.next_held(from) {
+            if self.walk.short_at(i, self.channel) {
+                return Some(i);
+            }
+            from = i + 1;
+        }
+        None
+    }
 }
 
 // The positions of all of them, noted in one walk.
-pub fn note_short(
-    table: &[u8],
-    terms: Terms,
-    channel: usize,
-    place: Place,
-    hits: &mut [u16; versions::LIMIT],
-) -> usize
-    requires { Notes table.now channel place hits.old }
-    ensures { Noted (short_positions (chosen_for terms) (looked terms) table.now (sited place channel)) hits.new result }
+pub fn short_positions(study: &Study<'_>, channel: usize) -> ArrayVec<u16, LIMIT>
+    requires { Asked channel }
+    ensures { let s = study.now in result.items ≡ short_positions (chosen_for s.terms) (looked s.terms) s.table.image.now (sited s.place channel) }
 {
-    let n = stations::count_of(table);
-    let limits = spacing::limits_of(terms.standard, place);
-    let free = free_of(channel);
-    let mut k: usize = 0;
-    let mut i = next_short(table, 0, terms, channel, place, &limits, &free);
-    while i < n {
-        hits[k] = i as u16;
-        k += 1;
-        i = next_short(table, i + 1, terms, channel, place, &limits, &free);
+    let search = Search::of(study, channel);
+    let mut positions = ArrayVec::new();
+    let mut from: usize = 0;
+    while let Some(i) = search.next(from) {
+        positions.push(i as u16);
+        from = i + 1;
     }
-    k
+    positions
 }

@@ -2,4 +2,3 @@ pub mod Symmetry
 pub mod Rule
 pub mod Facts
 pub mod Chosen
-pub mod Zones

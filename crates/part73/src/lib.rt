@@ -4,7 +4,7 @@
 
 ghost use Rattle.std.specs.Prelude.{◌≡◌, ◌≤◌, ◌<◌};
 ghost use Rattle.part73.specs.Classes.{is_class, is_zone, permits};
-ghost use Rattle.part73.specs.Columns.{gap, column};
+ghost use Rattle.part73.specs.Columns.{gap, column, IsColumn};
 ghost use Rattle.part73.specs.TableA.{table_a};
 ghost use Rattle.part73.specs.Reading.{rows_of, RowOf};
 
@@ -84,9 +84,10 @@ pub fn row_of(a: usize, b: usize) -> usize
     requires { (a < 8) × (b < 8) }
     ensures { RowOf a b result }
 {
-    if a <= b { ordered(a, b) } else { ordered(b, a) }
+    ordered(a.min(b), a.max(b))
 }
 
+// Classes and zones are numbers and no enums: these functions answer for every number, and an enum would ask more of callers.
 #[tactic(auto, unfolding(crate::specs::Classes::is_class))]
 pub fn is_class(class: u32) -> bool
     ensures { result ≡ is_class class }
@@ -94,42 +95,23 @@ pub fn is_class(class: u32) -> bool
     class <= 7
 }
 
+#[tactic(auto, using(std::proofs::lemmas::Bool::Decides::nat_tests), unfolding(crate::specs::Classes::is_zone, ground::specs::Lists::some))]
 pub fn is_zone(zone: u32) -> bool
     ensures { result ≡ is_zone zone }
 {
-    if zone == 0 {
-        return false;
-    }
-    zone <= 3
+    matches!(zone, 1..=3)
 }
 
-// The class may be authorized in the zone.
+// The class may be authorized in the zone: A, B1 and B in zones I and I-A; A, and C3 to C, in zone II.
+#[tactic(auto, using(std::proofs::lemmas::Bool::Decides::nat_tests), unfolding(crate::specs::Classes::permits, crate::specs::Classes::classes_of, ground::specs::Lists::some))]
 pub fn permitted(zone: u32, class: u32) -> bool
     ensures { result ≡ permits zone class }
 {
-    if zone == 3 {
-        return in_zone_two(class);
+    match zone {
+        1 | 2 => class <= 2,
+        3 => matches!(class, 0 | 3..=7),
+        _ => false,
     }
-    if zone == 1 {
-        return class <= 2;
-    }
-    if zone == 2 {
-        return class <= 2;
-    }
-    false
-}
-
-// Class A, or C3 to C.
-fn in_zone_two(class: u32) -> bool
-    ensures { result ≡ permits 3 class }
-{
-    if class == 0 {
-        return true;
-    }
-    if class < 3 {
-        return false;
-    }
-    is_class(class)
 }
 
 // The absolute difference of two channels.
@@ -137,31 +119,19 @@ fn in_zone_two(class: u32) -> bool
 pub fn gap_of(x: usize, y: usize) -> usize
     ensures { result ≡ gap x y }
 {
-    if x < y { y - x } else { x - y }
+    x.abs_diff(y)
 }
 
-// The column that a channel difference reads; 4 where there is no requirement.
+// The column that a channel difference reads, where there is a requirement.
 #[tactic(auto, using(ground::proofs::Guards::guards), unfolding(crate::specs::Columns::column))]
-pub fn column_of(d: usize) -> usize
-    ensures { result ≡ column d }
+pub fn column_of(d: usize) -> Option<usize>
+    ensures { IsColumn (column d) result }
 {
-    if d == 0 {
-        return 0;
+    match d {
+        0 => Some(0),
+        1 => Some(1),
+        2 | 3 => Some(2),
+        53 | 54 => Some(3),
+        _ => None,
     }
-    if d == 1 {
-        return 1;
-    }
-    if d == 2 {
-        return 2;
-    }
-    if d == 3 {
-        return 2;
-    }
-    if d == 53 {
-        return 3;
-    }
-    if d == 54 {
-        return 3;
-    }
-    4
 }

@@ -1,27 +1,26 @@
 -- Where a lone blocker may go: from the code's marks and rows to the scene. Assumes nothing.
-use mathlib.Core.Path.{◌≡◌, ◌∙◌}
+use mathlib.Core.Path.{◌≡◌, sym, ◌∙◌}
 use mathlib.Core.Bool.{Bool, true, false, not, and-false}
 use mathlib.Core.List.{List}
-use mathlib.Core.Logic.{⊎_elim}
 use Prim.Native.Nat.{ℕ, suc, ◌+◌, ◌-◌, ◌≤◌, ◌<◌}
 use native.Mathlib.Omega.{arith}
 use native.Mathlib.Decide.{ℕ_discrete}
 use lib.Dec.{eqb}
-use borrow.Author.Tests.{eqb-false, ne_eqb, not-true}
+use borrow.Author.Tests.{ne_eqb}
 use Rattle.ground.proofs.Guards.{and_was}
 use Rattle.part73.specs.Channels.{lowest, highest}
+use Rattle.spacing.specs.Reaching.{Reaches}
 use Rattle.spacing.specs.declared.Place.{Place}
 use Rattle.stations.specs.Image.{count, Accepted}
 use Rattle.stations.specs.Lists.{movable}
-use Rattle.survey.specs.Ways.{looked, chosen_for}
+use Rattle.survey.specs.Ways.{place_of, looked, chosen_for}
 use Rattle.survey.specs.Walking.{blocks}
 use Rattle.marking.specs.Marks.{many, seen, mark_of}
 use Rattle.survey.specs.declared.Terms.{Terms}
 use Rattle.survey.proofs.Records.{few}
 use Rattle.survey.proofs.Shorts.{hit_at}
 use Rattle.planning.specs.Scene.{Scene, scene, scene_of, new_but, moved_but, allowed}
-use Rattle.planning.specs.Flags.{Mark, Lone, station_of, may_move, Kept, Meets, goes, goes_from, row_of, Rowed, Right, Down, Planned}
-use Rattle.planning.specs.Planning.{Single}
+use Rattle.planning.specs.Flags.{Mark, Lone, station_of, may_move, Kept, Meets, goes, goes_from, row_of, Rowed, Right, Planned}
 use Rattle.planning.specs.declared.Blocker.{Blocker}
 use Rattle.planning.proofs.Single.{First, one}
 use Rattle.planning.proofs.Tallies.{Tally, nobody, lone, several, tally, mark_of_lem, lone_hit, but_mark}
@@ -50,13 +49,8 @@ module _ (t : Scene) (c : ℕ) where
 -- ---- what the mark of a new channel says
 
 module _ (s : List ℕ) (v : ℕ) where
-  pub moves_yes : Mark (count s) v → may_move s v ≡ true → Single (count s) v × (movable (station_of s v) ≡ true)
-  moves_yes k e =
-      let a = and_was (not (eqb v 0)) _ e in
-      let b = and_was (not (eqb v many)) _ a.1 in
-      let some = eqb-false v 0 (not-true _ a.0) in
-      let one = eqb-false v many (not-true _ b.0) in
-      (record { some = omega arith; within = ⊎_elim (λ h. h) (λ h. absurd (one h)) k }, b.1)
+  moves_yes : may_move s v ≡ true → movable (station_of s v) ≡ true
+  moves_yes e = (and_was (not (eqb v many)) _ (and_was (not (eqb v 0)) _ e).1).1
 
   moves_no : may_move s v ≡ false → Lone v → movable (station_of s v) ≡ false
   moves_no e l = rw (ne_eqb v 0 (λ q. omega arith), ne_eqb v many (λ q. omega arith)) at e
@@ -75,16 +69,18 @@ module _ (s : List ℕ) (t : Terms) (p : Place) (c : ℕ) {v : ℕ} (e : v ≡ s
   unfolding scene blocks
   lone-looked l = (and_was (looked t (station_of s v)) _ (lone_hit _ (count s) v l tallied)).0
 
-  pub right_kept : {kept : List ℕ} {b : Blocker} {row : List Bool} → Accepted s → lowest ≤ c → may_move s v ≡ true → Kept (chosen_for t) (looked t) s v kept → Meets (chosen_for t) s p v b → Rowed (goes_from b c kept) row → Right (scene_of s t p) c v row
+  pub right_kept : {i : ℕ} {kept : List ℕ} {b : Blocker} {row : List Bool} → Accepted s → lowest ≤ c → may_move s v ≡ true → v ≡ suc i → Kept (chosen_for t) (looked t) s i kept → Meets (chosen_for t) s p i b → Rowed (goes_from b c kept) row → Right (scene_of s t p) c v row
   unfolding scene
-  right_kept {kept} a low y k w r l =
-      let m = moves_yes s v marks_one y in
-      let some = m.0.some in
+  right_kept {i} {kept} {b} a low y h k w r l =
+      let f : v - 1 ≡ i = omega (arith, h) in
+      let own : b.own ≡ (station_of s v).channel = rw f w.own in
+      let reach : Reaches (chosen_for t) p (place_of (station_of s v)) b.reach = rw f w.reach in
+      let held : Kept (chosen_for t) (looked t) s (v - 1) kept = rw f k in
       record {
         at =
             λ x lo hi.
             r.at x lo hi
-            ∙ rw (w.mark, w.own some, hit_at (w.reach some) c x low) (by_kept (scene_of s t p) c v kept (omega (arith, few s a)) tallied l (rw (lone-looked l) m.1) (k.of some).at x lo hi);
+            ∙ rw (w.mark ∙ sym h, own, hit_at reach c x low) (by_kept (scene_of s t p) c v kept (omega (arith, few s a)) tallied l (rw (lone-looked l) (moves_yes s v y)) held.at x lo hi);
       }
 
   pub right-down : {row : List Bool} → may_move s v ≡ false → Rowed (λ m. false) row → Right (scene_of s t p) c v row
@@ -93,10 +89,7 @@ module _ (s : List ℕ) (t : Terms) (p : Place) (c : ℕ) {v : ℕ} (e : v ≡ s
 
 -- ---- one new channel after the other
 
-pub plan-start : (t : Scene) {first : ℕ} {moves : List Bool} → Down first first moves → Planned t first first moves
-plan-start t d = record { done = λ x a b. absurd (omega arith); down = d }
-
-pub plan_turn : {t : Scene} {first c v : ℕ} {row entry exit : List Bool} → first ≤ c → Planned t first c entry → Turned first c row entry exit → v ≡ seen (t.new c) t.size → Right t c v row → Planned t first (c + 1) exit
+pub plan_turn : {t : Scene} {first c v : ℕ} {row : List Bool} {entry exit : List (List Bool)} → first ≤ c → Planned t first c entry → Turned first c row entry exit → v ≡ seen (t.new c) t.size → Right t c v row → Planned t first (c + 1) exit
 plan_turn {t} {first} {c} {v} {row} {entry} {exit} le p u e r =
     record {
       done = λ x a b. go x a b (ℕ_discrete x c);

@@ -1,7 +1,6 @@
 -- What a mark says: nobody, one alone, or several stand in the way. Assumes nothing.
 use mathlib.Core.Path.{◌≡◌, refl, sym, ap, ◌∙◌, subst}
 use mathlib.Core.Bool.{Bool, true, false, cond, ◌||◌}
-use mathlib.Core.Logic.{inl, inr}
 use Prim.Native.Nat.{ℕ, zero, suc, ◌+◌, ◌-◌, ◌≤◌, ◌<◌}
 use native.Mathlib.Numerals.{add-one}
 use native.Mathlib.Omega.{arith}
@@ -56,9 +55,9 @@ module _ (way : ℕ → Bool) where
   tally (suc n) = step n (seen way n) (tally n) (way n) refl
 
   pub mark_of_lem : (n v : ℕ) → Tally way n v → Mark n v
-  mark_of_lem n v (nobody f) = inl (omega arith)
-  mark_of_lem n v (lone a l f g) = inl l
-  mark_of_lem n v (several a b l f g h) = inr refl
+  mark_of_lem n v (nobody f) ne = omega arith
+  mark_of_lem n v (lone a l f g) ne = omega arith
+  mark_of_lem n v (several a b l f g h) ne = absurd (ne refl)
 
   -- the one that a mark is of stands in the way
   pub lone_hit : (n v : ℕ) → Lone v → Tally way n v → way (v - 1) ≡ true

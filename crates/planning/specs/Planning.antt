@@ -1,46 +1,39 @@
--- Inside: what the functions of this crate, and of those that go by its marks and flags, ask. Assumes nothing.
-use Rattle.std.specs.Prelude.{◌≡◌, ℕ, ◌≤◌, ◌<◌, Bool, List}
+-- Inside: what the functions of this crate ask. Assumes nothing.
+use Rattle.std.specs.Prelude.{◌≡◌, ℕ, ◌-◌, ◌<◌, Bool, List, Option}
+use Rattle.std.specs.Option.{IfSome}
 use Rattle.squares.specs.Squares.{squared_limits}
-use Rattle.spacing.specs.Reaching.{InRange}
-use Rattle.spacing.specs.declared.Place.{Place}
-use Rattle.stations.specs.Image.{count, Accepted}
+use Rattle.stations.specs.Image.{count}
 use Rattle.survey.specs.Ways.{looked, chosen_for}
+use Rattle.survey.specs.declared.walk.Study.{Study}
 use Rattle.marking.specs.Marks.{Asked, Marked}
 use Rattle.marking.specs.declared.Channels.{Channels}
-use Rattle.survey.specs.declared.Terms.{Terms}
-use Rattle.planning.specs.Scene.{scene_of}
-use Rattle.planning.specs.Flags.{Mark, Kept, Meets, Room, Down}
+use Rattle.planning.specs.Scene.{Scene, scene_of}
+use Rattle.planning.specs.Flags.{Kept, Meets, Room, Down}
 use Rattle.planning.specs.declared.Blocker.{Blocker}
 
--- a mark of a survey of a table
-pub record Surveyed (s : List ℕ) (mark : ℕ) : Type 0 where
-  pub accepted : Accepted s
-  pub known : Mark (count s) mark
+-- the scene of a study
+abbrev pub scene_in : Study → Scene
+scene_in s = scene_of s.table.image.now s.terms s.place
 
--- a mark of one station of a table of n
-pub record Single (n mark : ℕ) : Type 0 where
-  pub some : 0 < mark
-  pub within : mark ≤ n
+-- what is known of the station at i, with the marks from its site
+pub record Known (s : Study) (i : ℕ) (b : Blocker) (marks : List ℕ) : Type 0 where
+  pub met : Meets (chosen_for s.terms) s.table.image.now s.place i b
+  pub held : Kept (chosen_for s.terms) (looked s.terms) s.table.image.now i marks
 
--- what is known of the station that v marks, with the marks from its site
-pub record Known (s : List ℕ) (t : Terms) (p : Place) (v : ℕ) (b : Blocker) (marks : List ℕ) : Type 0 where
-  pub met : Meets (chosen_for t) s p v b
-  pub held : Kept (chosen_for t) (looked t) s v marks
+-- of the one that is kept, if there is one
+abbrev pub Held : Study → Option Blocker → List ℕ → Type 0
+Held s kept marks = IfSome kept (λ b. Known s (b.mark - 1) b marks)
 
 -- the same of one station, where that of another is kept
-pub record Meeting (s : List ℕ) (t : Terms) (p : Place) (squares : List (List (List ℕ))) (mark : ℕ) (kept : Blocker) (marks : List ℕ) : Type 0 where
-  pub accepted : Accepted s
-  pub placed : InRange p
-  pub squared : squares ≡ squared_limits (chosen_for t)
-  pub single : Single (count s) mark
-  pub known : Known s t p kept.mark kept marks
+pub record Meeting (s : Study) (squares : List (List (List ℕ))) (i : ℕ) (kept : Option Blocker) (marks : List ℕ) : Type 0 where
+  pub squared : squares ≡ squared_limits (chosen_for s.terms)
+  pub within : i < count s.table.image.now
+  pub held : Held s kept marks
 
 -- the rows of new channels, by their marks
-pub record Planning (s : List ℕ) (t : Terms) (p : Place) (squares : List (List (List ℕ))) (channels : Channels) (marks : List ℕ) (moves : List Bool) : Type 0 where
-  pub accepted : Accepted s
-  pub placed : InRange p
-  pub squared : squares ≡ squared_limits (chosen_for t)
+pub record Planning (s : Study) (squares : List (List (List ℕ))) (channels : Channels) (marks : List ℕ) (moves : List (List Bool)) : Type 0 where
+  pub squared : squares ≡ squared_limits (chosen_for s.terms)
   pub asked : Asked channels
-  pub marked : Marked (scene_of s t p).new channels.first channels.last (count s) marks
+  pub marked : Marked (scene_in s).new channels.first channels.last (count s.table.image.now) marks
   pub down : Down channels.first channels.first moves
   pub room : Room channels moves

@@ -1,21 +1,21 @@
 // Where the lone blocker of a new channel may go: a row of flags for each new channel, from the first one asked for.
 #![tactic(auto)]
 
-ghost use Rattle.std.specs.Prelude.{◌≡◌, ◌||◌, suc, eqb, length};
-ghost use Rattle.part73.specs.Channels.{channel_count};
+ghost use Rattle.std.specs.Prelude.{◌≡◌, suc};
 ghost use Rattle.part73.specs.Columns.{gap};
 ghost use Rattle.spacing.specs.Reaching.{hits};
-ghost use Rattle.planning.specs.Scene.{scene_of};
-ghost use Rattle.planning.specs.Flags.{may_move, goes, goes_from, Rowed, Planned};
-ghost use Rattle.planning.specs.Planning.{Surveyed, Known, Meeting, Planning};
+ghost use Rattle.stations.specs.Image.{count};
+ghost use Rattle.planning.specs.Flags.{Mark, IsLone, IsMover, goes, goes_from, Rowed, Planned};
+ghost use Rattle.planning.specs.Planning.{scene_in, Known, Meeting, Planning};
 
 use marking::{Channels, MANY};
 use part73::{CHANNEL_COUNT, HIGHEST, LOWEST};
-use spacing::{Place, Reach};
+use spacing::Reach;
 use squares::Squares;
-use survey::Terms;
+use stations::Table;
+use survey::{Study, Walk};
 
-// The station that a mark is of: its channel, and how far it and the new station reach.
+// A station that alone stands in the way: its mark, its channel, and how far it and the new station reach.
 #[derive(Clone, Copy)]
 pub struct Blocker {
     pub mark: u16,
@@ -23,127 +23,102 @@ pub struct Blocker {
     pub reach: Reach,
 }
 
-// A mark of nobody, or of the station itself.
-fn free(there: u16, mark: u16) -> bool
-    ensures { result ≡ (eqb there 0 || eqb there mark) }
-{
-    if there == 0 {
-        return true;
+impl Blocker {
+    // Whether it may go to m, with the new station on c: not to its own channel, and short to no other, by the mark there from its
+    // site, and not to the new station.
+    fn may_go(self, there: u16, m: usize, c: usize) -> bool
+        ensures { result ≡ goes there self.mark m self.own (hits self.reach (gap c m)) }
+    {
+        m != self.own
+            && (there == 0 || there == self.mark)
+            && !self.reach.is_hit(part73::gap_of(c, m))
     }
-    there == mark
-}
 
-// Whether the lone blocker of c may go to m: not to its own channel, and short to no other and not to the new station.
-fn may_go(there: u16, mark: u16, m: usize, own: usize, c: usize, steps: usize, far: bool) -> bool
-    ensures { result ≡ goes there mark m own (hits (record { steps = steps; far = far }) (gap c m)) }
-{
-    if m == own {
-        return false;
-    }
-    if free(there, mark) {
-        return !spacing::is_hit(Reach { steps, far }, part73::gap_of(c, m));
-    }
-    false
-}
-
-// The row of the new channel c: where its lone blocker may go.
-fn fill_row(kept: &[u16; CHANNEL_COUNT], blocker: Blocker, c: usize, row: &mut [bool])
-    requires { length row.old ≡ channel_count }
-    ensures { Rowed (goes_from blocker c kept.now) row.new }
-{
-    // Taken apart here, so that the loop does several flags at a time.
-    let mark = blocker.mark;
-    let own = blocker.own;
-    let steps = blocker.reach.steps;
-    let far = blocker.reach.far;
-    let mut m = LOWEST;
-    while m <= HIGHEST {
-        let k = m - LOWEST;
-        let there = kept[k];
-        row[k] = may_go(there, mark, m, own, c, steps, far);
-        m += 1;
+    // The row of the new channel c: where it may go, by the marks from its site.
+    fn fill_row(self, kept: &[u16; CHANNEL_COUNT], c: usize, row: &mut [bool; CHANNEL_COUNT])
+        ensures { Rowed (goes_from self c kept.now) row.new }
+    {
+        for m in LOWEST..HIGHEST + 1 {
+            let k = m - LOWEST;
+            row[k] = self.may_go(kept[k], m, c);
+        }
     }
 }
 
-// Whether a mark is of one station alone, and that one is movable.
-fn may_move(table: &[u8], mark: u16) -> bool
-    requires { Surveyed table.now mark }
-    ensures { result ≡ may_move table.now mark }
+// The position of the station that a mark is of, where it is of one alone.
+pub fn lone(mark: u16) -> Option<usize>
+    ensures { IsLone mark result }
 {
-    if mark == 0 {
-        return false;
+    match mark {
+        0 | MANY => None,
+        _ => Some(mark as usize - 1),
     }
-    if mark == MANY {
-        return false;
-    }
-    let r = stations::station_at(table, mark as usize - 1);
-    stations::is_movable(r)
 }
 
-// The station that `mark` marks, with the marks from its site, unless it is the one that is kept.
+// The position of the station that a mark is of alone, where that one is movable.
+fn mover(table: &Table<'_>, mark: u16) -> Option<usize>
+    requires { Mark (count table.now.image.now) mark }
+    ensures { IsMover table.now.image.now mark result }
+{
+    let i = lone(mark)?;
+    stations::is_movable(table.station_at(i)).then_some(i)
+}
+
+// The station at i, with the marks from its site, unless it is the one that is kept.
 fn blocker_at(
-    table: &[u8],
-    terms: Terms,
-    place: Place,
+    study: &Study<'_>,
     squares: &Squares,
-    mark: u16,
-    kept: Blocker,
+    i: usize,
+    kept: Option<Blocker>,
     marks: &mut [u16; CHANNEL_COUNT],
 ) -> Blocker
-    requires { Meeting table.now terms place squares.now mark kept marks.old }
-    ensures { Known table.now terms place mark result marks.new }
+    requires { Meeting study.now squares.now i kept marks.old }
+    ensures { Known study.now i result marks.new }
 {
-    if mark == kept.mark {
-        return kept;
+    let mark = i as u16 + 1;
+    if let Some(same) = kept
+        && same.mark == mark
+    {
+        return same;
     }
-    let r = stations::station_at(table, mark as usize - 1);
-    let own = r.channel as usize;
-    let theirs = survey::place_of(r);
-    let limits = spacing::limits_by(squares, terms.standard, theirs);
+    let r = study.table.station_at(i);
+    let theirs = Study {
+        table: study.table,
+        terms: study.terms,
+        place: survey::place_of(r),
+    };
+    let walk = Walk::by(squares, &theirs);
     let channels = Channels {
         first: LOWEST,
         last: HIGHEST,
     };
-    survey::survey(table, terms, theirs, &limits, channels, marks);
-    let reach = spacing::reach_of(theirs, &limits, place);
-    Blocker { mark, own, reach }
+    walk.survey(channels, marks);
+    Blocker {
+        mark,
+        own: r.channel as usize,
+        reach: walk.limits.reach_of(theirs.place, study.place),
+    }
 }
 
 // The rows of new channels: flags where one movable station alone stands in the way. One survey from that station's site, and
 // one look at how far it and the new one reach, serve all the new channels that it alone blocks, one after the other.
 pub fn plan(
-    table: &[u8],
-    terms: Terms,
-    place: Place,
+    study: &Study<'_>,
     squares: &Squares,
     channels: Channels,
     marks: &[u16; CHANNEL_COUNT],
-    moves: &mut [bool],
+    moves: &mut [[bool; CHANNEL_COUNT]],
 )
-    requires { Planning table.now terms place squares.now channels marks.now moves.old }
-    ensures { Planned (scene_of table.now terms place) channels.first (suc channels.last) moves.new }
+    requires { Planning study.now squares.now channels marks.now moves.old }
+    ensures { Planned (scene_in study.now) channels.first (suc channels.last) moves.new }
 {
-    let first = channels.first;
-    let last = channels.last;
     let mut kept = [0u16; CHANNEL_COUNT];
-    let mut blocker = Blocker {
-        mark: 0,
-        own: 0,
-        reach: Reach {
-            steps: 0,
-            far: false,
-        },
-    };
-    let mut c = first;
-    while c <= last {
-        let k = c - LOWEST;
-        let mark = marks[k];
-        if may_move(table, mark) {
-            blocker = blocker_at(table, terms, place, squares, mark, blocker, &mut kept);
-            let a = CHANNEL_COUNT * (c - first);
-            let b = a + CHANNEL_COUNT;
-            fill_row(&kept, blocker, c, &mut moves[a..b]);
+    let mut blocker = None;
+    for c in channels.first..channels.last + 1 {
+        if let Some(i) = mover(&study.table, marks[c - LOWEST]) {
+            let one = blocker_at(study, squares, i, blocker, &mut kept);
+            one.fill_row(&kept, c, &mut moves[c - channels.first]);
+            blocker = Some(one);
         }
-        c += 1;
     }
 }

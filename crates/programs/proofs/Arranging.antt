@@ -5,7 +5,7 @@ use mathlib.Core.List.{List, [], ◌∷◌, ◌++◌, append-nil}
 use Prim.Native.Nat.{ℕ, ◌+◌, ◌-◌, ◌≤◌, ◌<◌}
 use native.Mathlib.Numerals.{add-one}
 use native.Mathlib.Omega.{arith}
-use lib.ListN.{length, take, drop}
+use lib.ListN.{length, drop}
 use Rattle.ground.specs.Lists.{span, each}
 use Rattle.ground.specs.Rows.{Row, flat}
 use Rattle.ground.proofs.Spans.{span_cons, span-done, each-each}
@@ -14,15 +14,18 @@ use Rattle.stations.specs.Image.{stations}
 use Rattle.marking.specs.Marks.{Asked}
 use Rattle.survey.specs.Ways.{studied, chosen_for}
 use Rattle.survey.specs.declared.Terms.{Terms}
+use Rattle.refusals.specs.Faults.{refusal}
 use Rattle.desk.specs.Answers.{Outcome, grant, deny}
 use Rattle.studies.specs.Studies.{asked}
 use Rattle.arrangements.specs.Arrange.{arranged, arrangements}
 use Rattle.lines.specs.Lines.{row_line, refused_line}
 use Rattle.streams.specs.Pieces.{Telling}
+use Rattle.streams.specs.declared.Text.{Text}
 use Rattle.asking.specs.Asking.{wanted_of, arrange_input}
 use Rattle.asking.proofs.Fitting.{one_channel}
 use Rattle.asking.proofs.OneByOne.{rows_of, regrant, alike}
 use Rattle.telling.specs.Texts.{printed, lines_text}
+use Rattle.telling.proofs.Waiting.{waits}
 use Rattle.programs.specs.OneChannel.{channel_text, is_denied}
 use Rattle.programs.specs.Printed.{printed_arrange}
 
@@ -102,7 +105,7 @@ module _ (terms : Terms) (input : List ℕ) where
     left_denied d = go all (sym (denied_alike c lo hi) ∙ d) ∙ sym (ap (λ (l : List ℕ). l ++ []) (channel_text_lem c lo hi))
       where
         go : (o : Outcome) → is_denied o ≡ true → printed (λ vs. each (λ m. each row_text (rows_on m)) (span c (highest + 1 - c))) o ≡ printed (λ vs. each row_text (rows_on c)) o ++ []
-        go (deny f) b = sym (append-nil (refused_line f))
+        go (deny f) b = sym (append-nil (refused_line (refusal f)))
         go (grant vs) b = absurd (true≢false (sym b))
 
     -- one that is not: none is, and its lines are told
@@ -129,11 +132,8 @@ module _ (terms : Terms) (input : List ℕ) where
       go (grant vs) b = ap (each (λ m. each row_text (rows_on m))) (span-done c (highest + 1) (omega arith))
 
 -- ---- where the lines of the new channels before one are told or wait
-pub record Turns (text₀ input : List ℕ) (terms : Terms) (mark₀ : ℕ) (text : List ℕ) (mark at channel : ℕ) : Type 0 where
-  pub low : lowest ≤ channel
-  pub high : channel ≤ highest + 1
-  pub long : length text ≡ length text₀
-  pub place : at ≤ length text
+pub record Turns (text₀ : Text) (input : List ℕ) (terms : Terms) (mark₀ : ℕ) (text : Text) (mark channel : ℕ) : Type 0 where
+  pub length_kept : length text.bytes.now ≡ length text₀.bytes.now
   -- past the first of them nothing is refused
   pub granted : lowest < channel → is_denied (arrange_input lowest highest terms input) ≡ false
-  pub telling : Telling (printed_arrange terms input) mark₀ mark (take at text) (left_from terms input channel)
+  pub telling : Telling (printed_arrange terms input) mark₀ mark (waits text) (left_from terms input channel)

@@ -1,4 +1,5 @@
 -- From the answer that a question gave to all that its program prints. Assumes nothing.
+use Rattle.std.specs.Prelude.{Ok, Err}
 use mathlib.Core.Path.{◌≡◌, refl, sym, ap, ◌∙◌}
 use mathlib.Core.Bool.{Bool, true, false, cond, not}
 use mathlib.Core.List.{List, ◌∷◌, ◌++◌}
@@ -12,11 +13,10 @@ use Rattle.ground.specs.Guard.{given}
 use Rattle.part73.specs.Channels.{channel_count}
 use Rattle.part73.specs.Standards.{by_table_a}
 use Rattle.survey.specs.declared.Terms.{Terms}
-use Rattle.refusals.specs.Faults.{refusal, UnderEightBytes}
+use Rattle.refusals.specs.Faults.{Answer, refusal}
+use Rattle.refusals.specs.declared.Fault.TheVariants.{UnderEightBytes}
 use Rattle.lines.specs.Lines.{refused_line}
 use Rattle.desk.specs.Answers.{Outcome, grant, deny, Answered}
-use Rattle.desk.specs.declared.Answer.{Answer}
-use Rattle.desk.specs.declared.Answer.TheVariants.{Granted, Refused}
 use Rattle.wire.specs.Be.{be}
 use Rattle.asking.specs.Asking.{past, check_input, reason_input, arrange_input, change_input, distance_input}
 use Rattle.subjects.specs.Subjects.{after_terms, subject_of}
@@ -36,7 +36,7 @@ abbrev Fits : Outcome → ℕ → Type 0
 Fits o room = (vs : List ℕ) → o ≡ grant vs → length vs ≤ room
 
 module _ {entry exit : List ℕ} {r : Answer} where
-  said : (vs : List ℕ) → length vs ≤ length entry → Answered (grant vs) entry exit r → (r ≡ Granted (length vs)) × (exit ≡ vs ++ drop (length vs) entry)
+  said : (vs : List ℕ) → length vs ≤ length entry → Answered (grant vs) entry exit r → (r ≡ Ok (length vs)) × (exit ≡ vs ++ drop (length vs) entry)
   unfolding given
   said vs h a = (a.said ∙ rw (le-ltb _ _ h), a.held ∙ rw (le-ltb _ _ h))
 
@@ -87,7 +87,7 @@ pub study_unnamed : (input : List ℕ) → (be 1 input 0 ≡ 99 → ⊥) → (be
 unfolding printed_distance distance_input given
 study_unnamed input c a d = sym (study-printed input (other_letter input c a)) ∙ rw (ne_eqb (be 1 input 0) 100 d) (go (not (eqb (length input) 17)))
   where
-    go : (b : Bool) → distance_text (cond b (Refused (refusal UnderEightBytes)) (Refused (refusal UnderEightBytes))) ≡ refused_line (refusal UnderEightBytes)
+    go : (b : Bool) → distance_text (cond b (Err UnderEightBytes) (Err UnderEightBytes)) ≡ refused_line (refusal UnderEightBytes)
     go true = refl
     go false = refl
 

@@ -2,7 +2,7 @@
 #![tactic(auto)]
 
 ghost use Rattle.std.specs.Prelude.{◌≡◌, ◌+◌, ◌-◌, ◌*◌, ◌≤◌, length};
-ghost use Rattle.ground.specs.Writing.{Wrote};
+ghost use Rattle.lines.specs.Puts.{Puts};
 ghost use Rattle.part73.specs.Channels.{channel_count};
 ghost use Rattle.asking.specs.Asking.{arrange_input};
 ghost use Rattle.streams.specs.Tells.{Tells};
@@ -13,10 +13,10 @@ ghost use Rattle.programs.specs.Ran.{Ran};
 use asking::{asked_arrange, asked_change, asked_check, asked_distance, asked_reason, standard_of};
 use lines::{LINE, REASON_LINE};
 use part73::{CHANNEL_COUNT, HIGHEST_ASKED, LOWEST_ASKED};
-use streams::{hand, room};
+use streams::{Text, Unwritten};
 use subjects::{AFTER_TERMS, Subject, subject_of};
 use survey::Terms;
-use telling::{Channel, put_answer, tell_change, tell_check, tell_distance, tell_reason};
+use telling::{put_answer, tell_change, tell_check, tell_distance, tell_reason};
 
 // What a program asks.
 #[derive(Clone, Copy)]
@@ -45,7 +45,7 @@ const PLAIN: Terms = Terms {
 };
 
 // Check, on its input.
-fn check(input: &[u8], terms: Terms, mark: &mut usize) -> bool
+fn check(input: &[u8], terms: Terms, mark: &mut usize) -> Result<(), Unwritten>
     ensures { Tells (printed_check terms input.now) mark.old mark.new result }
 {
     let mut rows = [0u32; ROWS];
@@ -54,41 +54,41 @@ fn check(input: &[u8], terms: Terms, mark: &mut usize) -> bool
     tell_check(&mut text, &rows, answer, mark)
 }
 
-// The lines of one new channel, or the refusal's line.
-fn put_channel(text: &mut [u8], at: usize, input: &[u8], terms: Terms, channel: u32) -> Channel
-    requires { at + 33 * (channel_count - 1) ≤ length text.old }
-    ensures wrote { Wrote (channel_text terms input.now channel) text.old at text.new result.at }
-    ensures at_bound { (result.at ≤ at + 33 * (channel_count - 1)) × (result.refused ≡ is_denied (arrange_input channel channel terms input.now)) }
+// The lines of one new channel, or the refusal's line; answers whether it was refused.
+fn put_channel(text: &mut Text, input: &[u8], terms: Terms, channel: u32) -> bool
+    requires { text.old.at + 33 * (channel_count - 1) ≤ length text.old.bytes.now }
+    ensures puts { Puts (channel_text terms input.now channel) text.old text.new }
+    ensures at_bound { text.new.at ≤ text.old.at + 33 * (channel_count - 1) }
+    ensures refused { result ≡ is_denied (arrange_input channel channel terms input.now) }
 {
     let mut rows = [0u32; ROWS_OF_ONE];
     let answer = asked_arrange(input, terms, channel, &mut rows);
-    put_answer(text, at, &rows, answer)
+    put_answer(text, &rows, answer)
 }
 
 // The new channels from 221 to 300, one at a time. What is refused for one is refused for all, so it stands alone.
-fn tell_channels(text: &mut [u8], input: &[u8], terms: Terms, mark: &mut usize) -> bool
+fn tell_channels(
+    text: &mut [u8],
+    input: &[u8],
+    terms: Terms,
+    mark: &mut usize,
+) -> Result<(), Unwritten>
     requires { 65536 ≤ length text.old }
     ensures { Tells (printed_arrange terms input.now) mark.old mark.new result }
 {
-    let mut at: usize = 0;
-    let mut channel = LOWEST_ASKED;
-    while channel <= HIGHEST_ASKED {
-        let p = room(text, at, LINE * MOVES, mark);
-        if !p.whole {
-            return false;
+    let mut lines = Text { bytes: text, at: 0 };
+    for channel in LOWEST_ASKED..=HIGHEST_ASKED {
+        lines.room(LINE * MOVES, mark)?;
+        let refused = put_channel(&mut lines, input, terms, channel);
+        if refused {
+            return lines.hand_over(mark);
         }
-        let c = put_channel(text, p.at, input, terms, channel);
-        at = c.at;
-        if c.refused {
-            return hand(text, at, mark);
-        }
-        channel += 1;
     }
-    hand(text, at, mark)
+    lines.hand_over(mark)
 }
 
 // Arrange, on its input, for the new channels from 221 to 300.
-fn arrange(input: &[u8], terms: Terms, mark: &mut usize) -> bool
+fn arrange(input: &[u8], terms: Terms, mark: &mut usize) -> Result<(), Unwritten>
     ensures { Tells (printed_arrange terms input.now) mark.old mark.new result }
 {
     let mut text = streams::space();
@@ -96,7 +96,7 @@ fn arrange(input: &[u8], terms: Terms, mark: &mut usize) -> bool
 }
 
 // Add, Withdraw or Move, on its input: the new image.
-fn change(input: &[u8], mark: &mut usize) -> bool
+fn change(input: &[u8], mark: &mut usize) -> Result<(), Unwritten>
     ensures { Tells (printed_change input.now) mark.old mark.new result }
 {
     let mut image = [0u8; IMAGE];
@@ -105,7 +105,7 @@ fn change(input: &[u8], mark: &mut usize) -> bool
 }
 
 // The distance between two sites, on its input.
-fn distance(input: &[u8], mark: &mut usize) -> bool
+fn distance(input: &[u8], mark: &mut usize) -> Result<(), Unwritten>
     ensures { Tells (printed_distance input.now) mark.old mark.new result }
 {
     let mut text = [0u8; LINE];
@@ -114,7 +114,7 @@ fn distance(input: &[u8], mark: &mut usize) -> bool
 }
 
 // A study, on its input.
-fn study(input: &[u8], mark: &mut usize) -> bool
+fn study(input: &[u8], mark: &mut usize) -> Result<(), Unwritten>
     ensures { Tells (printed_study input.now) mark.old mark.new result }
 {
     match subject_of(input) {
@@ -125,7 +125,7 @@ fn study(input: &[u8], mark: &mut usize) -> bool
 }
 
 // The reason, on its input.
-fn reason(input: &[u8], mark: &mut usize) -> bool
+fn reason(input: &[u8], mark: &mut usize) -> Result<(), Unwritten>
     ensures { Tells (printed_reason input.now) mark.old mark.new result }
 {
     let mut text = [0u8; REASON_LINE];
@@ -135,7 +135,7 @@ fn reason(input: &[u8], mark: &mut usize) -> bool
 }
 
 // The program that is named, on its input.
-fn tell(program: Program, input: &[u8], mark: &mut usize) -> bool
+fn tell(program: Program, input: &[u8], mark: &mut usize) -> Result<(), Unwritten>
     ensures { Tells (printed_by program input.now) mark.old mark.new result }
 {
     match program {
@@ -147,9 +147,9 @@ fn tell(program: Program, input: &[u8], mark: &mut usize) -> bool
     }
 }
 
-// Runs a program on a descriptor; it writes to standard output. Answers whether all was written. The input is read as far as
-// 65,536 bytes: a longer one is answered as these are.
-pub fn run(program: Program, fd: i32) -> bool
+// Runs a program on a descriptor; it writes to standard output. The input is read as far as 65,536 bytes: a longer one is answered
+// as these are.
+pub fn run(program: Program, fd: i32) -> Result<(), Unwritten>
     ensures { Ran (printed_by program) result }
 {
     let mut input = streams::space();

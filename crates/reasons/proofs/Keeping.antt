@@ -1,29 +1,29 @@
--- What a walk keeps of the stations in the way, in the order of their ids, is the station that is named. Assumes nothing.
+-- What is kept of the stations in the way, in the order of their ids, is the station that is named. Assumes nothing.
+use Rattle.std.specs.Prelude.{Some, None, MatchOption}
 use mathlib.Core.Path.{◌≡◌, refl, ap, ◌∙◌}
 use mathlib.Core.Logic.{◌⊎◌, inl, inr, ⊎_elim}
 use mathlib.Core.Bool.{Bool, true, false}
 use mathlib.Core.List.Memᴰ
-use mathlib.Core.List.{List, [], ◌∷◌, map}
-use Prim.Native.Nat.{ℕ, ◌+◌, ◌≤◌, ◌<◌}
-use native.Mathlib.Numerals.{add-one}
+use mathlib.Core.List.{List, [], ◌∷◌, ◌++◌, map}
+use Prim.Native.Nat.{ℕ, ◌+◌, ◌<◌}
 use native.Mathlib.Omega.{arith}
 use lib.Dec.{ltb}
-use lib.ListN.{length, get_or, take, drop, drop_of_length-le}
-use lib.Seq.{drop-cons, get_or-take, length-take-le}
-use borrow.Author.Tests.{ltb-true, ltb-false, lt-ltb}
+use lib.ListN.{length, get_or, take}
+use borrow.Author.Tests.{ltb-true, ltb-false}
+use Rattle.std.specs.List.{fold, reduce}
+use Rattle.std.proofs.lemmas.List.{map_more}
+use Rattle.std.proofs.lemmas.List.Sums.{fold_push}
 use Rattle.ground.specs.Guard.{given}
 use Rattle.ground.specs.Lists.{◌∈◌, keep}
-use Rattle.ground.proofs.Order.{in_keep, ahead, ahead_of, rest_of, ascending_keep}
+use Rattle.ground.proofs.Order.{ahead, ahead_of, rest_of, ascending_keep}
 use Rattle.spacing.specs.Pair.{Assignment}
 use Rattle.stations.specs.declared.Station.{Station}
 use Rattle.stations.proofs.Ids.{Ascends}
 use Rattle.survey.specs.Ways.{near}
-use Rattle.checks.proofs.Meaning.{near-short}
 use Rattle.neighbours.specs.Neighbours.{neighbour_of, shortfall_of}
 use Rattle.neighbours.specs.Inside.{worse_of}
 use Rattle.neighbours.specs.declared.Neighbour.{Neighbour}
 use Rattle.reasons.specs.Reason.{shortfall}
-use Rattle.reasons.specs.Inside.{nobody, kept}
 use Rattle.reasons.specs.Meaning.{Named}
 use Rattle.reasons.proofs.Named.{Leads, leads_named}
 
@@ -44,11 +44,10 @@ module _ (km : ℕ → ℕ → ℕ → ℕ) (p : Assignment) where
   record Kept (r : Station) (xs : List Station) : Type 0 where
     who : Station
     stands : who ∈ (r ∷ xs)
-    is : kept (told r) (map told xs) ≡ told who
+    is : fold worse_of (told r) (map told xs) ≡ told who
     leads : (x : Station) → x ∈ (r ∷ xs) → Leads km p who x
 
   kept_one : (r : Station) (xs : List Station) → Ascends (r ∷ xs) → Kept r xs
-  unfolding kept
   kept_one r [] a =
       record { who = r; stands = Memᴰ.head refl; is = refl; leads = λ x m. ⊎_elim (λ (q : x ≡ r). rw q (record { most = omega arith; first = λ e. omega arith })) (λ (n : x ∈ []). absurd (Memᴰ.not-nil n)) (Memᴰ.cases_cons m) }
   kept_one r (x ∷ xs) a = go (ltb (shortfall km p r) (shortfall km p x)) refl (kept_one x xs (rest_of a)) (kept_one r xs (ahead (λ y m. ahead_of a y (Memᴰ.tail m)) (rest_of (rest_of a))))
@@ -59,7 +58,7 @@ module _ (km : ℕ → ℕ → ℕ → ℕ) (p : Assignment) where
           record {
             who = k.who;
             stands = Memᴰ.tail k.stands;
-            is = ap (λ (n : Neighbour). kept n (map told xs)) (worse-later (told r) (told x) e) ∙ k.is;
+            is = ap (λ (n : Neighbour). fold worse_of n (map told xs)) (worse-later (told r) (told x) e) ∙ k.is;
             leads = λ y m.
                 ⊎_elim (λ (q : y ≡ r). let w = k.leads x (Memᴰ.head refl) in rw q (record { most = omega (arith, l, w.most); first = λ z. absurd (omega (arith, l, w.most, z)) }))
                 (λ (n : y ∈ (x ∷ xs)). k.leads y n) (Memᴰ.cases_cons m);
@@ -69,7 +68,7 @@ module _ (km : ℕ → ℕ → ℕ → ℕ) (p : Assignment) where
           record {
             who = k.who;
             stands = ⊎_elim (λ (q : k.who ≡ r). Memᴰ.head q) (λ (n : k.who ∈ xs). Memᴰ.tail (Memᴰ.tail n)) (Memᴰ.cases_cons k.stands);
-            is = ap (λ (n : Neighbour). kept n (map told xs)) (worse-earlier (told r) (told x) e) ∙ k.is;
+            is = ap (λ (n : Neighbour). fold worse_of n (map told xs)) (worse-earlier (told r) (told x) e) ∙ k.is;
             leads = λ y m.
                 let w = k.leads r (Memᴰ.head refl) in
                 ⊎_elim (λ (q : y ≡ r). rw q w)
@@ -77,29 +76,20 @@ module _ (km : ℕ → ℕ → ℕ → ℕ) (p : Assignment) where
           }
 
   -- nobody is in the way, and nobody is kept; or the station that is named is
-  pub kept-named : (ss : List Station) → Ascends ss → ((keep (near km p) ss ≡ []) × (kept nobody (map told (keep (near km p) ss)) ≡ nobody)) ⊎ ((r : Station) × Named km p ss r × (kept nobody (map told (keep (near km p) ss)) ≡ told r))
-  unfolding kept
+  pub kept-named : (ss : List Station) → Ascends ss → ((keep (near km p) ss ≡ []) × (reduce worse_of (map told (keep (near km p) ss)) ≡ None)) ⊎ ((r : Station) × Named km p ss r × (reduce worse_of (map told (keep (near km p) ss)) ≡ Some (told r)))
   kept-named ss a = go (keep (near km p) ss) refl (ascending_keep (near km p) ss a)
     where
-      go : (xs : List Station) → keep (near km p) ss ≡ xs → Ascends xs → ((keep (near km p) ss ≡ []) × (kept nobody (map told (keep (near km p) ss)) ≡ nobody)) ⊎ ((r : Station) × Named km p ss r × (kept nobody (map told (keep (near km p) ss)) ≡ told r))
+      go : (xs : List Station) → keep (near km p) ss ≡ xs → Ascends xs → ((keep (near km p) ss ≡ []) × (reduce worse_of (map told (keep (near km p) ss)) ≡ None)) ⊎ ((r : Station) × Named km p ss r × (reduce worse_of (map told (keep (near km p) ss)) ≡ Some (told r)))
       go [] e u = inl (e, rw e)
-      go (x ∷ xs) e u =
-          let k = kept_one x xs u in
-          let s = (near-short km p x).0 ((in_keep {x = x} (near km p) ss).0 (rw e (Memᴰ.head {x = x} refl))).1 in
-          let l : ltb (shortfall_of nobody) (shortfall km p x) ≡ true = lt-ltb 0 (shortfall km p x) (omega (arith, s)) in
-          inr (k.who, leads_named km p ss k.who (rw e k.stands) (rw e k.leads), rw e (ap (λ (n : Neighbour). kept n (map told xs)) (worse-later nobody (told x) l) ∙ k.is))
+      go (x ∷ xs) e u = let k = kept_one x xs u in inr (k.who, leads_named km p ss k.who (rw e k.stands) (rw e k.leads), rw e (ap Some k.is))
 
--- ---- a walk over the first k places
+-- ---- a walk over places that hold positions
 
-module _ (g : ℕ → Neighbour) (hits : List ℕ) (k : ℕ) (h : k ≤ length hits) where
-  -- the one at t
-  pub keep_turn : (n : Neighbour) (t : ℕ) → t < k → kept (worse_of n (g (get_or hits t 0))) (map g (drop (t + 1) (take k hits))) ≡ kept n (map g (drop t (take k hits)))
-  unfolding kept
-  keep_turn n t l =
-      let i : t < length (take k hits) = omega (arith, length-take-le k hits h) in
-      rw (drop-cons (take k hits) t 0 i, get_or-take k hits t 0 l, add-one t)
-
-  -- all of them
-  pub keep_end : (n : Neighbour) (t : ℕ) → k ≤ t → kept n (map g (drop t (take k hits))) ≡ n
-  unfolding kept
-  keep_end n t l = rw (drop_of_length-le (take k hits) {i = t} (omega (arith, length-take-le k hits h)))
+-- what is kept of the first t, and the one there
+pub kept_more : (g : ℕ → Neighbour) (vs : List ℕ) (t : ℕ) (n : Neighbour) → t < length vs
+    → MatchOption (reduce worse_of (map g (take t vs))) (n ≡ g (get_or vs t 0)) (λ earlier. n ≡ worse_of earlier (g (get_or vs t 0))) → Some n ≡ reduce worse_of (map g (take (t + 1) vs))
+kept_more g vs t n h m = rw (map_more g vs t 0 h) (go (map g (take t vs)) m)
+  where
+    go : (xs : List Neighbour) → MatchOption (reduce worse_of xs) (n ≡ g (get_or vs t 0)) (λ earlier. n ≡ worse_of earlier (g (get_or vs t 0))) → Some n ≡ reduce worse_of (xs ++ g (get_or vs t 0) ∷ [])
+    go [] e = ap Some e
+    go (x ∷ xs) e = rw (fold_push worse_of x xs (g (get_or vs t 0))) (ap Some e)

@@ -1,5 +1,7 @@
 -- 02, R-2, in the owner's words: when "clear" is said, which station is named and with what, and that nothing is left open.
 -- Assumes nothing.
+use Rattle.refusals.specs.declared.Fault.{Fault}
+use Rattle.std.specs.Prelude.{Ok, Err, Some, None}
 use mathlib.Core.Path.{◌≡◌, refl, sym, ap, ◌∙◌}
 use mathlib.Core.Logic.{◌↔◌, ◌⊎◌, inl, inr}
 use mathlib.Core.List.Memᴰ
@@ -9,7 +11,6 @@ use native.Mathlib.Omega.{arith}
 use Rattle.ground.specs.Lists.{◌∈◌}
 use Rattle.ground.specs.Rows.{Row, flat}
 use Rattle.ground.proofs.Positions.{in_at}
-use Rattle.refusals.specs.declared.Refusal.{Refusal}
 use Rattle.part73.specs.Separations.{Separations}
 use Rattle.part73.specs.Standards.{chosen}
 use Rattle.part73.proofs.Chosen.{chosen-table}
@@ -18,26 +19,22 @@ use Rattle.spacing.proofs.Rule.{for_most}
 use Rattle.stations.specs.Image.{station_at, stations, count, Accepted}
 use Rattle.stations.specs.Encode.{record_of}
 use Rattle.stations.specs.declared.Station.{Station}
-use Rattle.stations.proofs.Table.{whole, next}
+use Rattle.stations.proofs.Whole.{whole, next}
 use Rattle.stations.proofs.Places.{ids_ascend}
 use Rattle.stations.proofs.Ids.{Ascends, one_id}
-use Rattle.stations.specs.declared.Verdict.TheVariants.{Sound}
 use Rattle.survey.proofs.Studied.{studied_ascend}
 use Rattle.survey.proofs.Records.{known_at}
 use Rattle.desk.specs.Answers.{Outcome, grant, deny}
 use Rattle.studies.specs.Studies.{terms_asked, study_fault, study}
-use Rattle.studies.proofs.Ways.{granted_on, granted_was, denied_alike}
+use Rattle.studies.proofs.Ways.{passed, granted_on, granted_was, denied_alike}
 use Rattle.neighbours.specs.Neighbours.{neighbour_of}
 use Rattle.neighbours.specs.declared.Neighbour.{Neighbour}
 use Rattle.checks.specs.Check.{asked, on_one, row_of, short_rows, rows_for, checked_for}
 use Rattle.checks.specs.Meaning.{Short}
 use Rattle.checks.specs.declared.Proposal.{Proposal}
 use Rattle.checks.proofs.Meaning.{short-listed}
-use Rattle.checks.proofs.Passing.{passed_one}
-use Rattle.reasons.specs.Reason.{reason_for, reasoned_for, outcome_of, position_in, part_of, Reasoned}
+use Rattle.reasons.specs.Reason.{Why, reason_for, reasoned_for, outcome_of, position_in, part_of, Reasoned}
 use Rattle.reasons.specs.Meaning.{Named, studied_for, Explains}
-use Rattle.reasons.specs.declared.Why.{Why}
-use Rattle.reasons.specs.declared.Why.TheVariants.{Clear, Blocked, Refused}
 use Rattle.reasons.proofs.Reasons.{Nobody, Somebody, told, reason_one, never_empty, neighbour_in, blocking, stands-there, names}
 use Rattle.reasons.proofs.Part.{stands_at, record_bytes}
 
@@ -49,9 +46,9 @@ some_rows (r ∷ rs) m e = let z : ◌≡◌ {A = ℕ} 0 1 = cc in omega arith
 
 -- the answer that tells an outcome
 answer_in : Outcome → Why
-answer_in (grant []) = Clear
-answer_in (grant (v ∷ vs)) = Blocked (neighbour_in (v ∷ vs))
-answer_in (deny f) = Refused f
+answer_in (grant []) = Ok None
+answer_in (grant (v ∷ vs)) = Ok (Some (neighbour_in (v ∷ vs)))
+answer_in (deny f) = Err f
 
 -- one outcome is told by one answer
 one_answer : (a b : Why) → outcome_of a ≡ outcome_of b → a ≡ b
@@ -59,9 +56,9 @@ unfolding answer_in
 one_answer a b e = sym (back a) ∙ (ap answer_in e ∙ back b)
   where
     back : (w : Why) → answer_in (outcome_of w) ≡ w
-    back Clear = refl
-    back (Blocked n) = refl
-    back (Refused f) = refl
+    back (Ok None) = refl
+    back (Ok (Some n)) = refl
+    back (Err f) = refl
 
 -- to a short station a column applies
 applies : {km : ℕ → ℕ → ℕ → ℕ} → Separations km → (p : Assignment) (r : Station) → p.class < 8 → r.class < 8 → Short km p r → column_for p.channel r.channel < 4
@@ -90,7 +87,7 @@ module _ (p : Assignment) (km : ℕ → ℕ → ℕ → ℕ) (ss : List Station)
 
 module _ (s : List ℕ) (p : Proposal) where
   -- "clear" is said exactly when Check, asked the same, lists nothing
-  pub clear_exactly : (outcome_of Clear ≡ reasoned_for s p) ↔ (checked_for s p ≡ grant [])
+  pub clear_exactly : (outcome_of (Ok None) ≡ reasoned_for s p) ↔ (checked_for s p ≡ grant [])
   unfolding reasoned_for checked_for
   clear_exactly = (to, from)
     where
@@ -105,25 +102,25 @@ module _ (s : List ℕ) (p : Proposal) where
           sym (granted_on s (on_one p) (reason_for (asked p)) g.0 g.1 ∙ ap grant ((none_listed (asked p) (chosen p.standard) (studied_for s p) (studied_ascend s (count s) g.0 (terms_asked (on_one p)))).1 g.2))
 
   -- and a refusal is given exactly when Check refuses so, its room left aside
-  pub refused_alike : (f : Refusal) → (outcome_of (Refused f) ≡ reasoned_for s p) ↔ (checked_for s p ≡ deny f)
+  pub refused_alike : (f : Fault) → (outcome_of (Err f) ≡ reasoned_for s p) ↔ (checked_for s p ≡ deny f)
   unfolding reasoned_for checked_for
   refused_alike f = (λ e. denied_alike s (on_one p) (reason_for (asked p)) (rows_for (asked p)) f (sym e), λ e. sym (denied_alike s (on_one p) (rows_for (asked p)) (reason_for (asked p)) f e))
 
   -- ---- the station that is named
 
   -- there is one answer: where nothing is wrong, any station with these properties is the one that is told
-  pub only_reason : Accepted s → study_fault (stations s) (on_one p) ≡ Sound → (r : Station) → Named (chosen p.standard) (asked p) (studied_for s p) r → reasoned_for s p ≡ outcome_of (Blocked (neighbour_of (chosen p.standard) (asked p) r))
+  pub only_reason : Accepted s → study_fault (stations s) (on_one p) ≡ (Ok tt) → (r : Station) → Named (chosen p.standard) (asked p) (studied_for s p) r → reasoned_for s p ≡ outcome_of (Ok (Some (neighbour_of (chosen p.standard) (asked p) r)))
   unfolding reasoned_for
   only_reason e q r n =
       granted_on s (on_one p) (reason_for (asked p)) e q ∙ ap grant (reason_one (asked p) (chosen p.standard) (studied_for s p) (studied_ascend s (count s) e (terms_asked (on_one p))) r n)
 
   -- what is said with "blocked", and the part beside it
-  pub explained : (n : Neighbour) (part : List ℕ) → Reasoned s p (Blocked n) part → Explains s p n part
+  pub explained : (n : Neighbour) (part : List ℕ) → Reasoned s p (Ok (Some n)) part → Explains s p n part
   unfolding row_of
   explained n part w =
       let b = blocking s p n w.said in
       let e = b.accepted in
-      let stands = names s p (Blocked n) w.said in
+      let stands = names s p (Ok (Some n)) w.said in
       let i = position_in s n.id in
       let at = stands_at s n.id stands in
       let there : station_at s i ≡ b.who =
@@ -132,7 +129,7 @@ module _ (s : List ℕ) (p : Proposal) where
         who = b.who;
         named = b.named;
         is = b.is;
-        one_of_four = rw b.is (applies (chosen-table p.standard) (asked p) b.who (passed_one s p e b.sound).placed.known (rw there at (known_at s e i at.0).placed.known) b.named.short);
+        one_of_four = rw b.is (applies (chosen-table p.standard) (asked p) b.who (passed s (on_one p) b.sound).0.known (rw there at (known_at s e i at.0).placed.known) b.named.short);
         listed = rw b.is (named-listed (asked p) (chosen p.standard) (studied_for s p) b.who b.named);
         position = i;
         within = at.0;

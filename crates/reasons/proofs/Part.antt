@@ -8,7 +8,7 @@ use Rattle.ground.specs.Lists.{each}
 use Rattle.wire.specs.Be.{Bytes}
 use Rattle.stations.specs.Image.{station_at, bytes_at, count, Accepted}
 use Rattle.stations.specs.Encode.{record_of}
-use Rattle.stations.proofs.Table.{whole, next}
+use Rattle.stations.proofs.Whole.{whole, next}
 use Rattle.stations.proofs.Places.{present_first, present-place}
 use Rattle.stations.proofs.Cuts.{cut_image}
 use Rattle.survey.proofs.Records.{few, room_at}

@@ -1,5 +1,8 @@
 -- The numbers of the reason: none where nobody is in the way, else those of the station that is named. So an answer names a station
 -- of the table, or nobody. Assumes nothing.
+
+use Rattle.std.specs.Prelude.{Option, Some, None, Ok, Err}
+use Rattle.std.specs.List.{reduce}
 use mathlib.Core.Path.{◌≡◌, sym, ap, ◌∙◌}
 use mathlib.Core.Logic.{◌⊎◌, inl, inr}
 use mathlib.Core.List.{List, [], map}
@@ -16,41 +19,40 @@ use Rattle.spacing.specs.Pair.{Assignment}
 use Rattle.stations.specs.Image.{stations, count, Accepted}
 use Rattle.stations.specs.Lists.{has_id}
 use Rattle.stations.specs.declared.Station.{Station}
-use Rattle.stations.specs.declared.Verdict.TheVariants.{Sound}
 use Rattle.stations.proofs.Ids.{Ascends}
 use Rattle.survey.specs.Ways.{near, looked, studied}
 use Rattle.survey.proofs.Studied.{studied_ascend}
+use Rattle.desk.specs.Answers.{grant}
 use Rattle.studies.specs.Studies.{terms_asked, study_fault}
 use Rattle.studies.proofs.Ways.{granted_was}
 use Rattle.neighbours.specs.Neighbours.{neighbour_of}
+use Rattle.neighbours.specs.Inside.{worse_of}
 use Rattle.neighbours.specs.declared.Neighbour.{Neighbour}
 use Rattle.checks.specs.Check.{asked, on_one}
 use Rattle.checks.specs.declared.Proposal.{Proposal}
-use Rattle.reasons.specs.Reason.{worst, numbers_of, reason_for, outcome_of, reasoned_for}
-use Rattle.reasons.specs.Inside.{nobody, kept, Names}
+use Rattle.reasons.specs.Reason.{Why, worst, numbers_of, reason_for, outcome_of, reasoned_for}
+use Rattle.reasons.specs.Inside.{Names}
 use Rattle.reasons.specs.Meaning.{Named, studied_for}
-use Rattle.reasons.specs.declared.Why.{Why}
-use Rattle.reasons.specs.declared.Why.TheVariants.{Clear, Blocked, Refused}
 use Rattle.reasons.proofs.Named.{worst_one}
 use Rattle.reasons.proofs.Keeping.{kept-named}
 
 module _ (p : Assignment) (km : ℕ → ℕ → ℕ → ℕ) (ss : List Station) where
-  -- what a walk keeps
-  abbrev pub walked : Neighbour
-  walked = kept nobody (map (neighbour_of km p) (keep (near km p) ss))
+  -- what is kept
+  abbrev pub kept : Option Neighbour
+  kept = reduce worse_of (map (neighbour_of km p) (keep (near km p) ss))
 
   -- nobody is in the way
   pub record Nobody : Type 0 where
     pub free : keep (near km p) ss ≡ []
     pub numbers : reason_for p km ss ≡ []
-    pub keeps : walked ≡ nobody
+    pub keeps : kept ≡ None
 
   -- a station is named
   pub record Somebody : Type 0 where
     pub who : Station
     pub named : Named km p ss who
     pub numbers : reason_for p km ss ≡ numbers_of (neighbour_of km p who)
-    pub keeps : walked ≡ neighbour_of km p who
+    pub keeps : kept ≡ Some (neighbour_of km p who)
 
   module _ (ids : Ascends ss) where
     -- the numbers of the station that is named
@@ -62,26 +64,17 @@ module _ (p : Assignment) (km : ℕ → ℕ → ℕ → ℕ) (ss : List Station)
     unfolding reason_for worst keep each
     told = go (kept-named km p ss ids)
       where
-        go : ((keep (near km p) ss ≡ []) × (walked ≡ nobody)) ⊎ ((r : Station) × Named km p ss r × (walked ≡ neighbour_of km p r)) → Nobody ⊎ Somebody
+        go : ((keep (near km p) ss ≡ []) × (kept ≡ None)) ⊎ ((r : Station) × Named km p ss r × (kept ≡ Some (neighbour_of km p r))) → Nobody ⊎ Somebody
         go (inl w) = inl (record { free = w.0; numbers = rw w.0; keeps = w.1 })
         go (inr w) = inr (record { who = w.0; named = w.1; numbers = reason_one w.0 w.1; keeps = w.2 })
 
-    module _ (most : Neighbour) (is : most ≡ walked) where
-      -- what is kept has no separation: nobody is in the way
-      pub kept-clear : most.separation ≡ 0 → [] ≡ reason_for p km ss
-      kept-clear z = go told
-        where
-          go : Nobody ⊎ Somebody → [] ≡ reason_for p km ss
-          go (inl w) = sym w.numbers
-          go (inr w) = absurd (omega (arith, w.named.short, ap (λ (n : Neighbour). n.separation) (is ∙ w.keeps), z))
-
-      -- else its numbers are those of the reason
-      pub kept_blocked : (most.separation ≡ 0 → ⊥) → numbers_of most ≡ reason_for p km ss
-      kept_blocked z = go told
-        where
-          go : Nobody ⊎ Somebody → numbers_of most ≡ reason_for p km ss
-          go (inl w) = absurd (z (ap (λ (n : Neighbour). n.separation) (is ∙ w.keeps)))
-          go (inr w) = ap numbers_of (is ∙ w.keeps) ∙ sym w.numbers
+    -- what is kept is the reason
+    pub kept_said : outcome_of (Ok kept) ≡ grant (reason_for p km ss)
+    kept_said = go told
+      where
+        go : Nobody ⊎ Somebody → outcome_of (Ok kept) ≡ grant (reason_for p km ss)
+        go (inl w) = rw (w.keeps, w.numbers)
+        go (inr w) = rw (w.keeps, w.numbers)
 
 -- ---- the answer
 
@@ -96,18 +89,18 @@ module _ (s : List ℕ) (p : Proposal) where
   -- "blocked" is said with the numbers of the station that is named
   pub record Blocking (n : Neighbour) : Type 0 where
     pub accepted : Accepted s
-    pub sound : study_fault (stations s) (on_one p) ≡ Sound
+    pub sound : study_fault (stations s) (on_one p) ≡ (Ok tt)
     pub who : Station
     pub named : Named (chosen p.standard) (asked p) (studied_for s p) who
     pub is : n ≡ neighbour_of (chosen p.standard) (asked p) who
 
-  pub blocking : (n : Neighbour) → outcome_of (Blocked n) ≡ reasoned_for s p → Blocking n
+  pub blocking : (n : Neighbour) → outcome_of (Ok (Some n)) ≡ reasoned_for s p → Blocking n
   unfolding reasoned_for
   blocking n e =
       let g = granted_was s (on_one p) (reason_for (asked p)) (numbers_of n) (sym e) in
       go g.0 g.1 g.2 (told (asked p) (chosen p.standard) (studied_for s p) (studied_ascend s (count s) g.0 (terms_asked (on_one p))))
     where
-      go : Accepted s → study_fault (stations s) (on_one p) ≡ Sound → reason_for (asked p) (chosen p.standard) (studied_for s p) ≡ numbers_of n → Nobody (asked p) (chosen p.standard) (studied_for s p) ⊎ Somebody (asked p) (chosen p.standard) (studied_for s p) → Blocking n
+      go : Accepted s → study_fault (stations s) (on_one p) ≡ (Ok tt) → reason_for (asked p) (chosen p.standard) (studied_for s p) ≡ numbers_of n → Nobody (asked p) (chosen p.standard) (studied_for s p) ⊎ Somebody (asked p) (chosen p.standard) (studied_for s p) → Blocking n
       go a f q (inl w) = absurd (never_empty n (sym w.numbers ∙ q))
       go a f q (inr w) = record { accepted = a; sound = f; who = w.who; named = w.named; is = ap neighbour_in (sym q ∙ w.numbers) }
 
@@ -117,9 +110,9 @@ module _ (s : List ℕ) (p : Proposal) where
   stands-there {r} m = ((in_keep {x = r} (looked (terms_asked (on_one p))) (stations s)).0 m).0
 
   pub names : (w : Why) → outcome_of w ≡ reasoned_for s p → Names s w
-  names Clear e = tt
-  names (Refused f) e = tt
-  names (Blocked n) e =
+  names (Ok None) e = tt
+  names (Err f) e = tt
+  names (Ok (Some n)) e =
       let b = blocking n e in
       let at = position (stations s) (stands-there b.named.stands) in
       record { accepted = b.accepted; present = some_at (has_id n.id) (stations s) at.0 b.who at.2 at.3 (eq-eqb b.who.id n.id (ap (λ (x : Neighbour). x.id) (sym b.is))) }

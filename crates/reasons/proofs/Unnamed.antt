@@ -1,15 +1,11 @@
 -- An answer that is not "blocked" names nobody: what holds of "clear" and of every refusal holds of it. Assumes nothing.
-use mathlib.Core.Path.{◌≡◌}
-use mathlib.Core.Logic.{◌⊎◌, inl, inr}
-use native.Mathlib.Omega.{arith}
-use denote.Enum.Declared.{tag_of}
-use Rattle.refusals.specs.declared.Refusal.{Refusal}
-use Rattle.reasons.specs.declared.Why.{Why}
-use Rattle.reasons.specs.declared.Why.TheVariants.{Clear, Blocked, Refused}
-use Rattle.reasons.specs.contracts.Why.{the_type}
+use Rattle.std.specs.Prelude.{Ok, Err, Some, None}
+use mathlib.Core.Path.{◌≡◌, refl}
+use Rattle.refusals.specs.declared.Fault.{Fault}
+use Rattle.neighbours.specs.declared.Neighbour.{Neighbour}
+use Rattle.reasons.specs.Reason.{Why}
 
-pub unnamed : (P : Why → Type 0) → P Clear → ((f : Refusal) → P (Refused f)) → (w : Why) → (tag_of the_type w ≡ 0) ⊎ (tag_of the_type w ≡ 2) → P w
-unnamed P clear refused Clear k = clear
-unnamed P clear refused (Blocked n) (inl e) = absurd (omega (arith, e))
-unnamed P clear refused (Blocked n) (inr e) = absurd (omega (arith, e))
-unnamed P clear refused (Refused f) k = refused f
+pub unnamed : (P : Why → Type 0) → P (Ok None) → ((f : Fault) → P (Err f)) → (w : Why) → ((n : Neighbour) → w ≡ Ok (Some n) → ⊥) → P w
+unnamed P clear refused (Ok None) k = clear
+unnamed P clear refused (Ok (Some n)) k = absurd (k n refl)
+unnamed P clear refused (Err f) k = refused f

@@ -1,7 +1,9 @@
 -- 02, R-2, R-6: why a channel is blocked. Of the stations that are studied and short to what is proposed, the one with the largest
 -- shortfall R - D, the lowest id among equals; and its own bytes of the lent table. Assumes nothing.
-use Rattle.std.specs.Prelude.{◌≡◌, Bool, ◌&&◌, ◌||◌, List, [], ◌∷◌, ℕ, ◌+◌, ◌*◌, leb, ltb, eqb}
+
+use Rattle.std.specs.Prelude.{◌≡◌, Bool, ◌&&◌, ◌||◌, List, [], ◌∷◌, ℕ, ◌+◌, ◌*◌, leb, ltb, eqb, Option, Some, None, Result, Ok, Err}
 use Rattle.ground.specs.Lists.{keep, every, each, first}
+use Rattle.refusals.specs.declared.Fault.{Fault}
 use Rattle.spacing.specs.Pair.{Assignment}
 use Rattle.stations.specs.Image.{stations, bytes_at}
 use Rattle.stations.specs.Lists.{has_id}
@@ -13,8 +15,6 @@ use Rattle.neighbours.specs.Neighbours.{neighbour_of, shortfall_of}
 use Rattle.neighbours.specs.declared.Neighbour.{Neighbour}
 use Rattle.checks.specs.Check.{asked, on_one}
 use Rattle.checks.specs.declared.Proposal.{Proposal}
-use Rattle.reasons.specs.declared.Why.{Why}
-use Rattle.reasons.specs.declared.Why.TheVariants.{Clear, Blocked, Refused}
 
 -- ---- which station is named
 
@@ -46,11 +46,15 @@ reasoned_for s p = study s (on_one p) (reason_for (asked p))
 
 -- ---- what is answered
 
+-- nobody is in the way; or the station that is named; or a refusal
+abbrev pub Why : Type 0
+Why = Result (Option Neighbour) Fault
+
 -- the outcome that each answer tells: the paper's number and values
 abbrev pub outcome_of : Why → Outcome
-outcome_of Clear = grant []
-outcome_of (Blocked n) = grant (numbers_of n)
-outcome_of (Refused f) = deny f
+outcome_of (Ok None) = grant []
+outcome_of (Ok (Some n)) = grant (numbers_of n)
+outcome_of (Err f) = deny f
 
 -- the position of the record with an id, and the byte place where it begins in its table
 abbrev pub position_in : List ℕ → ℕ → ℕ
@@ -61,9 +65,9 @@ begins_at s id = 8 + 16 * position_in s id
 
 -- the part of the table that is handed back: the station's own sixteen bytes; with "clear" and with a refusal it is empty
 abbrev pub part_of : List ℕ → Why → List ℕ
-part_of s Clear = []
-part_of s (Blocked n) = bytes_at s (position_in s n.id)
-part_of s (Refused f) = []
+part_of s (Ok None) = []
+part_of s (Ok (Some n)) = bytes_at s (position_in s n.id)
+part_of s (Err f) = []
 
 -- the promise of the question: its answer, and the part of the table beside it
 pub record Reasoned (s : List ℕ) (p : Proposal) (answer : Why) (part : List ℕ) : Type 0 where

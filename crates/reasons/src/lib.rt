@@ -1,105 +1,63 @@
 // Why a channel is blocked: the station in the way that is short by the most, and its own bytes of the lent table.
 #![tactic(auto)]
 
-ghost use Rattle.std.specs.Prelude.{◌≡◌, take};
+ghost use Rattle.std.specs.Prelude.{◌≡◌, ◌<◌, Ok};
+ghost use Rattle.std.specs.List.{All, reduce};
 ghost use Rattle.part73.specs.Standards.{chosen};
 ghost use Rattle.spacing.specs.Pair.{sited};
-ghost use Rattle.stations.specs.Image.{stations};
+ghost use Rattle.stations.specs.Image.{stations, count};
 ghost use Rattle.survey.specs.Ways.{studied, chosen_for};
 ghost use Rattle.desk.specs.Answers.{grant};
-ghost use Rattle.checks.specs.Positions.{Passed};
-ghost use Rattle.nearby.specs.Positions.{NotedAt};
+ghost use Rattle.nearby.specs.Positions.{Asked};
+ghost use Rattle.neighbours.specs.Inside.{worse_of};
 ghost use Rattle.reasons.specs.Reason.{reason_for, reasoned_for, outcome_of, begins_at, part_of, Reasoned};
-ghost use Rattle.reasons.specs.Inside.{nobody, neighbours_at, kept, leave, Stands, Names};
+ghost use Rattle.reasons.specs.Inside.{neighbours_at, Stands, Names};
 
-use checks::{Proposal, on_one};
-use nearby::NO_POSITION;
-use neighbours::{NOBODY, Neighbour, neighbour_at, worse};
-use refusals::Refusal;
-use spacing::Place;
-use stations::{HEADER, Judged, RECORD, Verdict};
-use survey::Terms;
-use versions::LIMIT;
+use checks::Proposal;
+use neighbours::{Neighbour, neighbour_at};
+use refusals::Fault;
+use stations::{HEADER, RECORD, Table};
+use studies::Wanted;
+use survey::Study;
 
-// Nobody is in the way; or the station that is named; or a refusal.
-#[derive(Clone, Copy)]
-pub enum Why {
-    Clear,
-    Blocked(Neighbour),
-    Refused(Refusal),
-}
-
-// The answer, and the named station's own sixteen bytes of the lent table; none where no station is named.
-#[derive(Clone, Copy)]
+// The answer: nobody is in the way, or the station that is named, or a refusal; and the named station's own sixteen bytes of the
+// lent table, none where no station is named.
+#[derive(Clone, Copy, Debug, PartialEq, Eq)]
 pub struct ReasonSheet<'a> {
     pub part: &'a [u8],
-    pub answer: Why,
+    pub answer: Result<Option<Neighbour>, Fault>,
 }
 
-// Of the stations at the first k noted positions, the one that is short by the most by a standard, the first among equals.
-fn most_of(
-    table: &[u8],
-    standard: u32,
-    channel: usize,
-    place: Place,
-    hits: &[u16; LIMIT],
-    k: usize,
-) -> Neighbour
-    requires { NotedAt table.now place hits.now k }
-    ensures { result ≡ kept nobody (neighbours_at (chosen standard) table.now (sited place channel) (take k hits.now)) }
+// Of the stations at noted positions, the one that what is studied, on a channel, is short to by the most, the first among
+// equals.
+fn most_of(study: &Study<'_>, channel: usize, positions: &[u16]) -> Option<Neighbour>
+    requires { All (λ i. i < count study.now.table.image.now) positions.now }
+    ensures { let s = study.now in result ≡ reduce worse_of (neighbours_at (chosen s.terms.standard) s.table.image.now (sited s.place channel) positions.now) }
 {
-    let separations = standards::rows_by(standard);
-    let mut most = NOBODY;
-    let mut t: usize = 0;
-    while t < k {
-        let i = hits[t] as usize;
-        let next = neighbour_at(table, i, &separations, channel, place);
-        most = worse(most, next);
-        t += 1;
+    let separations = standards::rows_by(study.terms.standard);
+    let mut most: Option<Neighbour> = None;
+    for &i in positions {
+        let next = neighbour_at(study, i as usize, &separations, channel);
+        most = Some(most.map_or(next, |earlier| earlier.worse(next)));
     }
     most
 }
 
-// The reason for a proposal that passed its checks.
-fn found(table: &[u8], terms: Terms, channel: usize, place: Place) -> Why
-    requires { Passed table.now channel place }
-    ensures { outcome_of result ≡ grant (reason_for (sited place channel) (chosen_for terms) (studied terms (stations table.now))) }
+// The reason for what is studied, on a channel.
+fn found(study: &Study<'_>, channel: usize) -> Option<Neighbour>
+    requires { Asked channel }
+    ensures { let s = study.now in outcome_of (Ok result) ≡ grant (reason_for (sited s.place channel) (chosen_for s.terms) (studied s.terms (stations s.table.image.now))) }
 {
-    let mut hits = [NO_POSITION; LIMIT];
-    let k = nearby::note_short(table, terms, channel, place, &mut hits);
-    let most = most_of(table, terms.standard, channel, place, &hits, k);
-    if most.separation == 0 {
-        return Why::Clear;
-    }
-    Why::Blocked(most)
-}
-
-// The answer to a table that is refused.
-fn left(j: Judged) -> Why
-    ensures { result ≡ leave j }
-{
-    match j {
-        Judged::Table(_) => Why::Clear,
-        Judged::Refused(f) => Why::Refused(f),
-    }
+    let positions = nearby::short_positions(study, channel);
+    most_of(study, channel, positions.as_slice())
 }
 
 // The answer alone.
-pub fn answer(table: &[u8], proposal: Proposal) -> Why
+pub fn answer(table: &[u8], proposal: Proposal) -> Result<Option<Neighbour>, Fault>
     ensures { outcome_of result ≡ reasoned_for table.now proposal }
 {
-    let j = stations::judge(table);
-    let Judged::Table(_) = j else {
-        return left(j);
-    };
-    let wanted = on_one(proposal);
-    let v = studies::fault_of(table, wanted);
-    if let Verdict::Faulty(f) = v {
-        return Why::Refused(f);
-    }
-    let terms = studies::terms_asked(wanted);
-    let place = studies::place_asked(wanted);
-    found(table, terms, proposal.channel as usize, place)
+    let study = studies::study(table, Wanted::from(proposal))?;
+    Ok(found(&study, proposal.channel as usize))
 }
 
 // The byte place where the record with an id begins in its table.
@@ -107,21 +65,20 @@ pub fn begins_at(table: &[u8], id: u32) -> usize
     requires { Stands table.now id }
     ensures { result ≡ begins_at table.now id }
 {
-    let i = stations::place_of(table, id);
-    HEADER + RECORD * i
+    let table = Table { image: table };
+    HEADER + RECORD * table.place_of(id)
 }
 
 // The named station's own bytes of the table.
-fn part_of(table: &[u8], answer: Why) -> &[u8]
+fn part_of(table: &[u8], answer: Result<Option<Neighbour>, Fault>) -> &[u8]
     requires { Names table.now answer }
     ensures { result.now ≡ part_of table.now answer }
 {
-    let Why::Blocked(n) = answer else {
-        return &table[..0];
+    let Ok(Some(n)) = answer else {
+        return &[];
     };
     let at = begins_at(table, n.id);
-    let end = at + RECORD;
-    &table[at..end]
+    &table[at..at + RECORD]
 }
 
 // The answer, and beside it the named station's own bytes.

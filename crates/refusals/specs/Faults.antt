@@ -1,63 +1,17 @@
--- 01, Refusal numbers and their order, with 23 as 02, R-1, and with 3, 5 and 21 as R-3 has them, 26 of R-6 and 27 of R-7: each fault by its
--- name, with the number that it is given and what it returns also. Assumes nothing.
-use Rattle.std.specs.Prelude.{ℕ}
+-- 01, Refusal numbers and their order, with 23 as 02, R-1, and with 3, 5 and 21 as R-3 has them, 26 of R-6 and 27 of R-7: each fault,
+-- with the number that it is given and what it returns also. Assumes nothing.
+use Rattle.std.specs.Prelude.{ℕ, Result}
+use Rattle.refusals.specs.declared.Fault.{Fault}
+use Rattle.refusals.specs.declared.Fault.TheVariants.{UnderEightBytes, MarkDiffers, VersionUnknown, SixthByteSet, CountOutside, LengthWrong, IdNotAscending, ChannelOutside, ClassOver, FlagsOver, LatitudeOutside, LongitudeOutside, AskedChannel, AskedClass, AskedZone, NotPermitted, AskedSite, IdZero, IdPresent, Short, TableFull, DoesNotFit, IdAbsent, TooFar, NotMovable, StandardUnknown, Repeated}
 use Rattle.refusals.specs.declared.Refusal.{Refusal}
 
-pub data Fault : Type 0 where
-  -- under 8 bytes
-  UnderEightBytes : Fault
-  -- mark differs
-  MarkDiffers : Fault
-  -- version neither 1 nor 2
-  VersionUnknown : Fault
-  -- sixth byte not 0
-  SixthByteSet : Fault
-  -- count outside its version's range
-  CountOutside : Fault
-  -- length not 8 + 16n
-  LengthWrong : Fault
-  -- id 0 or not above the one before
-  IdNotAscending : (position : ℕ) → Fault
-  -- channel outside 201-300
-  ChannelOutside : (position : ℕ) → Fault
-  -- class over 7
-  ClassOver : (position : ℕ) → Fault
-  -- other flag bits
-  FlagsOver : (position : ℕ) → Fault
-  -- latitude out of range
-  LatitudeOutside : (position : ℕ) → Fault
-  -- longitude out of range
-  LongitudeOutside : (position : ℕ) → Fault
-  -- asked channel outside 221-300, or first above last
-  AskedChannel : Fault
-  -- class over 7
-  AskedClass : Fault
-  -- zone not 1-3
-  AskedZone : Fault
-  -- class not permitted in zone
-  NotPermitted : Fault
-  -- a given site out of range
-  AskedSite : Fault
-  -- Add: id 0
-  IdZero : Fault
-  -- Add: id present
-  IdPresent : (position : ℕ) → Fault
-  -- Add, Move: short
-  Short : (position : ℕ) → Fault
-  -- Add: table already holds 4,000
-  TableFull : Fault
-  -- the answer does not fit
-  DoesNotFit : (need : ℕ) → Fault
-  -- Withdraw, Move: id absent; Check, Arrange, the reason: a nonzero id to leave aside is absent
-  IdAbsent : Fault
-  -- distance over 475
-  TooFar : Fault
-  -- Move: not movable
-  NotMovable : (position : ℕ) → Fault
-  -- Check, Arrange, the reason: a standard not 1 or 2
-  StandardUnknown : Fault
-  -- a record repeats an earlier one
-  Repeated : (position : ℕ) → Fault
+-- what is found: nothing wrong, or the first fault
+abbrev pub Verdict : Type 0
+Verdict = Result (Unit {0}) Fault
+
+-- what is answered: a number, or the first fault
+abbrev pub Answer : Type 0
+Answer = Result ℕ Fault
 
 abbrev pub numbered : ℕ → ℕ → Refusal
 numbered number extra = record { number = number; extra = extra }

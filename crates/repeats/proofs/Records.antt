@@ -1,13 +1,27 @@
 -- Records that agree: what they agree in, and that they have one number. Assumes nothing.
-use mathlib.Core.Path.{◌≡◌}
+use mathlib.Core.Path.{◌≡◌, refl}
 use mathlib.Core.Logic.{◌↔◌}
-use mathlib.Core.Bool.{true, ◌&&◌}
+use mathlib.Core.Bool.{Bool, true, false, ◌&&◌}
 use mathlib.Core.List.{List}
 use Prim.Native.Nat.{ℕ}
 use lib.Dec.{eqb}
 use borrow.Author.Tests.{eqb-true, eq-eqb}
 use Rattle.ground.proofs.Guards.{and_was}
+use Rattle.repeats.specs.declared.Subject.{Subject}
 use Rattle.repeats.specs.Records.{high_at, subject_at, agrees, number, number_at}
+
+-- the same by what was read of two records, and whether it is the same
+pub agrees_by : (s : List ℕ) (i k : ℕ) {a b : Subject} (t : Bool) → a ≡ subject_at s i → b ≡ subject_at s k
+    → t ≡ eqb a.north b.north && (eqb a.east b.east && eqb a.kind b.kind) → (t && eqb (high_at s i) (high_at s k)) ≡ agrees s i k
+unfolding agrees
+agrees_by s i k {a} {b} t e f g =
+    let x = subject_at s i in
+    let y = subject_at s k in
+    rw (g, e, f) (regroup (eqb x.north y.north) (eqb x.east y.east) (eqb x.kind y.kind) (eqb (high_at s i) (high_at s k)))
+  where
+    regroup : (x y z w : Bool) → (x && (y && z)) && w ≡ x && y && z && w
+    regroup true y z w = refl
+    regroup false y z w = refl
 
 -- what two records agree in
 pub record Agreed (s : List ℕ) (i k : ℕ) : Type 0 where

@@ -17,16 +17,16 @@ const SLOTS: usize = BUCKETS + 2 * LIMIT;
 // A position is handed on as twice itself, in halves of a record: where its own slots begin.
 const HALF: usize = RECORD / 2;
 
-// No position of a table.
+// No position of a table, and above each, so that a way only goes up. An Option in its place would double what is cleared for a table.
 const NONE: u16 = (2 * LIMIT) as u16;
 
 // What of a record is compared but for the high byte of its channel: the low byte and its class in one number, and the bytes of its
 // latitude and of its longitude in one each. The lowest byte comes first: so they are read at once.
-#[derive(Clone, Copy)]
+#[derive(Clone, Copy, PartialEq)]
 struct Subject {
-    kind: u16,
     north: u32,
     east: u32,
+    kind: u16,
 }
 
 fn subject_at(table: &[u8], own: usize) -> Subject
@@ -34,10 +34,11 @@ fn subject_at(table: &[u8], own: usize) -> Subject
     ensures { result ≡ subject_at table.now (own / 2) }
 {
     let at = HEADER + HALF * own;
-    let kind = wire::low16(table, at + 5);
-    let north = wire::low32(table, at + 8);
-    let east = wire::low32(table, at + 12);
-    Subject { kind, north, east }
+    Subject {
+        north: wire::low(table, at + 8),
+        east: wire::low(table, at + 12),
+        kind: wire::low(table, at + 5),
+    }
 }
 
 // Whether the record at a position agrees with an earlier one in channel, class, latitude and longitude.
@@ -45,17 +46,8 @@ fn agree(table: &[u8], own: usize, other: usize, r: Subject) -> bool
     requires { Compares table.now own other r }
     ensures { result ≡ agrees table.now (own / 2) (other / 2) }
 {
-    let at = HEADER + HALF * other;
-    if r.north != wire::low32(table, at + 8) {
-        return false;
-    }
-    if r.east != wire::low32(table, at + 12) {
-        return false;
-    }
-    if r.kind != wire::low16(table, at + 5) {
-        return false;
-    }
-    table[HEADER + HALF * own + 4] == table[at + 4]
+    r == subject_at(table, other)
+        && table[HEADER + HALF * own + 4] == table[HEADER + HALF * other + 4]
 }
 
 // A number that records which agree have in common.
@@ -63,9 +55,9 @@ fn agree(table: &[u8], own: usize, other: usize, r: Subject) -> bool
 fn number_of(r: Subject) -> u64
     ensures { result ≡ number r }
 {
-    (r.kind as u64) * 1_697_706_979
-        + (r.north as u64) * 1_652_984_621
-        + (r.east as u64) * 1_440_846_997
+    u64::from(r.kind) * 1_697_706_979
+        + u64::from(r.north) * 1_652_984_621
+        + u64::from(r.east) * 1_440_846_997
 }
 
 // Where the way of a number begins.
@@ -85,7 +77,8 @@ fn next_slot(other: usize, left: u64) -> usize
     BUCKETS + other + (left % 2) as usize
 }
 
-// The first empty slot on the way of the record at a position; the count of the slots where an earlier record agrees with it.
+// The first empty slot on the way of the record at a position; the count of the slots where an earlier record agrees with it. An
+// Option in its place takes 2.3 % more instructions for a table (callgrind: 206,702 for 201,990).
 fn free_slot(table: &[u8], own: usize, slots: &[u16; SLOTS]) -> usize
     requires twice { Twice table.now own }
     requires kept { Kept (number_at table.now) slots.now (own / 2) }
@@ -107,7 +100,7 @@ fn free_slot(table: &[u8], own: usize, slots: &[u16; SLOTS]) -> usize
     slot
 }
 
-// The position of the first record that agrees with an earlier one, of the first n; n where none does.
+// The position of the first record that agrees with an earlier one, of the first n; n where none does, as `FirstRepeat` counts.
 pub fn first_repeat(table: &[u8], n: usize) -> usize
     requires { Holds table.now n }
     ensures { FirstRepeat (agrees table.now) n result }
@@ -115,6 +108,7 @@ pub fn first_repeat(table: &[u8], n: usize) -> usize
     let mut slots = [NONE; SLOTS];
     let end = 2 * n;
     let mut own: usize = 0;
+    // By hand, in halves: `for i in 0..n` takes four instructions more for each record (callgrind).
     while own < end {
         let slot = free_slot(table, own, &slots);
         if slot == SLOTS {

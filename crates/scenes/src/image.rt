@@ -1,11 +1,12 @@
 // Table images, written field by field.
-ghost use Rattle.std.specs.Prelude.{◌+◌, ◌≤◌};
-ghost use Rattle.scenes.specs.Sizes.{most_records, longest};
+ghost use Rattle.std.specs.Prelude.{◌≡◌, ℕ, List, ◌%◌, ◌+◌, ◌*◌, ◌≤◌};
+ghost use Rattle.scenes.specs.Image.{header, put_at};
+ghost use Rattle.scenes.specs.Sizes.{most_records, version_of};
 
 use super::sizes::version_for;
 use super::words::Site;
 
-// A record's fields.
+// A record's fields, any numbers, for what is out of range is asked too.
 #[derive(Clone, Copy)]
 pub struct Record {
     pub id: u32,
@@ -15,59 +16,108 @@ pub struct Record {
     pub site: Site,
 }
 
-// Where the record at a position starts.
-pub(crate) fn start_of(position: usize) -> usize
-    requires { position ≤ most_records }
-    ensures { result ≤ longest }
-{
-    8 + 16 * position
-}
-
-// Writes the lowest 8 bits where there is room.
-pub fn put_one(table: &mut [u8], at: usize, value: u32) {
-    if at < table.len() {
-        table[at] = (value % 256) as u8;
+impl Record {
+    // Its 16 bytes as one number, with the lowest 16 bits of the channel and the lowest 8 of the class and of the flags.
+    pub(crate) fn word(self) -> u128 {
+        u128::from(self.id) << 96
+            | u128::from(self.channel % 65_536) << 80
+            | u128::from(self.class % 256) << 72
+            | u128::from(self.flags % 256) << 64
+            | u128::from(self.site.lat) << 32
+            | u128::from(self.site.lon)
     }
 }
 
-// Writes the lowest 16 bits.
-pub(crate) fn put_two(table: &mut [u8], at: usize, value: u32)
-    requires { at ≤ longest + 14 }
-{
-    put_one(table, at, value / 256);
-    put_one(table, at + 1, value);
+// A field of a record.
+#[derive(Clone, Copy)]
+pub(crate) enum Field {
+    Id,
+    Channel,
+    Class,
+    Flags,
+    Latitude,
+    Longitude,
 }
 
-// Writes 32 bits.
-pub(crate) fn put_four(table: &mut [u8], at: usize, value: u32)
-    requires { at ≤ longest + 12 }
-{
-    put_two(table, at, value / 65_536);
-    put_two(table, at + 2, value);
+impl Field {
+    // The field with a number, 0 to 5; the last behind them.
+    pub(crate) fn by_number(k: u32) -> Field {
+        match k {
+            0 => Field::Id,
+            1 => Field::Channel,
+            2 => Field::Class,
+            3 => Field::Flags,
+            4 => Field::Latitude,
+            _ => Field::Longitude,
+        }
+    }
+
+    // Where it starts in the record at a position.
+    pub(crate) fn of(self, position: u32) -> usize {
+        let within = match self {
+            Field::Id => 0,
+            Field::Channel => 4,
+            Field::Class => 6,
+            Field::Flags => 7,
+            Field::Latitude => 8,
+            Field::Longitude => 12,
+        };
+        start_of(position) + within
+    }
 }
 
-// Writes a header: the mark FMS, a version, a byte, and a count.
-pub fn put_any_header(table: &mut [u8], version: u32, sixth: u32, count: u32) {
-    put_four(table, 0, 0x464D_5300);
-    put_two(table, 3, version);
-    put_one(table, 5, sixth);
-    put_two(table, 6, count);
+// Where the record at a position starts.
+pub(crate) fn start_of(position: u32) -> usize
+    ensures { result ≡ 8 + 16 * position }
+{
+    8 + 16 * position as usize
+}
+
+// Writes bytes from a place on, where there is room.
+pub fn put<const N: usize>(table: &mut [u8], at: usize, bytes: [u8; N])
+    ensures { table.new ≡ put_at N table.old at bytes.entry }
+{
+    if at < table.len() {
+        let room = bytes.len().min(table.len() - at);
+        table[at..at + room].copy_from_slice(&bytes[..room]);
+    }
+}
+
+// The lowest 16 bits.
+pub(crate) fn low_half(x: u32) -> u16
+    ensures { result ≡ x % 65536 }
+{
+    (x % 65_536) as u16
+}
+
+// Writes a header: the mark FMS, the lowest 16 bits of a version, the lowest 8 of a byte, and the lowest 16 of a count.
+pub fn put_any_header(table: &mut [u8], version: u32, sixth: u32, count: u32)
+    ensures { table.new ≡ put_at 8 table.old 0 (header version sixth count) }
+{
+    let [v, w] = low_half(version).to_be_bytes();
+    let [c, d] = low_half(count).to_be_bytes();
+    put(
+        table,
+        0,
+        [b'F', b'M', b'S', v, w, (sixth % 256) as u8, c, d],
+    );
 }
 
 // Writes the header of n stations.
-pub fn put_header(table: &mut [u8], n: u32) {
+pub fn put_header(table: &mut [u8], n: u32)
+    ensures { table.new ≡ put_at 8 table.old 0 (header (version_of n) 0 n) }
+{
     put_any_header(table, version_for(n), 0, n);
 }
 
 // Writes the record at a position.
 pub fn put_record(table: &mut [u8], position: usize, record: Record)
     requires { position ≤ most_records }
+    ensures { (bytes : List ℕ) × (table.new ≡ put_at 16 table.old (8 + 16 * position) bytes) }
 {
-    let at = start_of(position);
-    let s = record.site;
-    put_four(table, at, record.id);
-    put_two(table, at + 4, record.channel);
-    put_two(table, at + 6, record.class % 256 * 256 + record.flags % 256);
-    put_four(table, at + 8, s.lat);
-    put_four(table, at + 12, s.lon);
+    put(
+        table,
+        start_of(position as u32),
+        record.word().to_be_bytes(),
+    );
 }

@@ -1,166 +1,105 @@
 // Records that repeat an earlier one in channel, class and site: kept out of a table, or put into it.
-ghost use Rattle.std.specs.Prelude.{◌+◌, ◌<◌, ◌≤◌};
-ghost use Rattle.scenes.specs.Sizes.{most_records, longest};
+ghost use Rattle.std.specs.Prelude.{◌≡◌, ◌<◌};
 
-use super::chance::{below, once_in};
-use super::image::{Record, put_four, put_one, put_two, start_of};
-use super::words::{east, eastward, north, site_at};
+use super::chance::Chance;
+use super::image::{Field, Record, put, start_of};
+use super::words::Site;
 
 // How often a record that would repeat another is moved on.
 const TRIES: u32 = 1_000;
 
-// A byte as a wide number.
-fn wide(x: u8) -> u32
-    ensures { result < 256 }
-{
-    x as u32
+// The bits of a record's word that hold its channel, class and site, and not its id and its flags.
+const STATION: u128 = 0xFFFF_FF00_FFFF_FFFF_FFFF_FFFF;
+
+// The word of the record at a position; none behind the end.
+fn word_at(table: &[u8], position: u32) -> Option<u128> {
+    let bytes = table.get(start_of(position)..)?.first_chunk()?;
+    Some(u128::from_be_bytes(*bytes))
 }
 
-// The byte at a place; 0 behind the end.
-fn byte_at(table: &[u8], at: usize) -> u32
-    ensures { result < 256 }
-{
-    if at < table.len() {
-        return wide(table[at]);
-    }
-    0
-}
-
-// The 32 bits at a place.
-fn four_at(table: &[u8], at: usize) -> u32
-    requires { at ≤ longest + 12 }
-{
-    let high = byte_at(table, at) * 256 + byte_at(table, at + 1);
-    let low = byte_at(table, at + 2) * 256 + byte_at(table, at + 3);
-    high * 65_536 + low
-}
-
-// Whether the record that starts at a place has the channel, the class and the site of another.
-fn repeats_it(table: &[u8], at: usize, record: Record) -> bool
-    requires { at ≤ longest }
-{
-    let s = record.site;
-    if byte_at(table, at + 15) != s.lon % 256 {
-        return false;
-    }
-    if four_at(table, at + 12) != s.lon {
-        return false;
-    }
-    if four_at(table, at + 8) != s.lat {
-        return false;
-    }
-    four_at(table, at + 4) / 256 == record.channel % 65_536 * 256 + record.class % 256
-}
-
-// Whether one of the first n records does.
-fn met_before(table: &[u8], n: usize, record: Record) -> bool
-    requires { n ≤ most_records }
-{
-    let mut i: usize = 0;
-    while i < n {
-        if repeats_it(table, start_of(i), record) {
-            return true;
-        }
-        i += 1;
-    }
-    false
+// Whether one of the first n records has the channel, the class and the site of another.
+fn met_before(table: &[u8], n: u32, record: Record) -> bool {
+    let station = record.word() & STATION;
+    (0..n).any(|i| word_at(table, i).is_some_and(|word| word & STATION == station))
 }
 
 // The same record one second farther east.
 fn farther(record: Record) -> Record {
-    let s = record.site;
+    let site = record.site;
     Record {
-        id: record.id,
-        channel: record.channel,
-        class: record.class,
-        flags: record.flags,
-        site: site_at(north(s), eastward(east(s), 1)),
+        site: Site::at(site.north(), site.east().eastward(1)),
+        ..record
     }
 }
 
 // A record that repeats none of the first n: this one, or the same some seconds farther east.
-pub(crate) fn fresh(table: &[u8], n: usize, record: Record) -> Record
-    requires { n ≤ most_records }
-{
+pub(crate) fn fresh(table: &[u8], n: u32, record: Record) -> Record {
     let mut other = record;
-    let mut left = TRIES;
-    while 0 < left {
+    for _ in 0..TRIES {
         if !met_before(table, n, other) {
             return other;
         }
         other = farther(other);
-        left -= 1;
     }
     other
 }
 
-// Gives the record that starts at a place the channel, the class and the site of another; its id and its flags stay.
-fn copy_station(table: &mut [u8], from: usize, to: usize)
-    requires { (from ≤ longest) × (to ≤ longest) }
-{
-    let kind = four_at(table, from + 4) / 256;
-    let lat = four_at(table, from + 8);
-    let lon = four_at(table, from + 12);
-    put_two(table, to + 4, kind / 256);
-    put_one(table, to + 6, kind);
-    put_four(table, to + 8, lat);
-    put_four(table, to + 12, lon);
+// Gives the record at a position the channel, the class and the site of another; its id and its flags stay.
+fn copy_station(table: &mut [u8], from: u32, to: u32) {
+    if let (Some(station), Some(word)) = (word_at(table, from), word_at(table, to)) {
+        put(
+            table,
+            start_of(to),
+            (word & !STATION | station & STATION).to_be_bytes(),
+        );
+    }
 }
 
 // Mostly leaves two records as they are; else gives the second another channel, class or latitude, or both the two longitudes of the
 // 180th meridian.
-fn tell_apart(state: &mut u64, table: &mut [u8], from: usize, to: usize)
-    requires { (from ≤ longest) × (to ≤ longest) }
-{
-    match below(state, 12) {
-        0 => {
-            put_two(table, to + 4, 201 + below(state, 100));
-        }
-        1 => {
-            put_one(table, to + 6, below(state, 8));
-        }
-        2 => {
-            put_four(table, to + 8, below(state, 1_000));
-        }
+fn tell_apart(chance: &mut Chance, table: &mut [u8], from: u32, to: u32) {
+    match chance.below(12) {
+        0 => put(
+            table,
+            Field::Channel.of(to),
+            (201 + chance.below(100) as u16).to_be_bytes(),
+        ),
+        1 => put(table, Field::Class.of(to), [chance.below(8) as u8]),
+        2 => put(
+            table,
+            Field::Latitude.of(to),
+            chance.below(1_000).to_be_bytes(),
+        ),
         3 => {
-            put_four(table, from + 12, 648_000);
-            put_four(table, to + 12, 4_294_319_296);
+            put(table, Field::Longitude.of(from), 648_000i32.to_be_bytes());
+            put(table, Field::Longitude.of(to), (-648_000i32).to_be_bytes());
         }
         _ => {}
     }
 }
 
-// The next position, or any of n.
-fn next_or_any(state: &mut u64, p: usize, n: u32) -> usize
-    requires { (p < n) × (n ≤ most_records) }
-    ensures { result ≤ n }
-{
-    if once_in(state, 3) {
-        return p + 1;
-    }
-    below(state, n) as usize
-}
-
 // Makes a record of a table of n, or the one behind them, repeat the one before it, or any other; or nearly so.
-fn repeat_one(state: &mut u64, table: &mut [u8], n: u32)
-    requires { (0 < n) × (n ≤ most_records) }
+fn repeat_one(chance: &mut Chance, table: &mut [u8], n: u32)
+    requires { 0 < n }
 {
-    let p = below(state, n) as usize;
-    let q = next_or_any(state, p, n);
-    copy_station(table, start_of(p), start_of(q));
-    tell_apart(state, table, start_of(p), start_of(q));
+    let from = chance.below(n);
+    let to = if chance.once_in(3) {
+        from + 1
+    } else {
+        chance.below(n)
+    };
+    copy_station(table, from, to);
+    tell_apart(chance, table, from, to);
 }
 
 // Does so up to three times, where there are records.
-pub fn repeat_some(state: &mut u64, table: &mut [u8], n: u32)
-    requires { n ≤ most_records }
+pub fn repeat_some(chance: &mut Chance, table: &mut [u8], n: u32)
+    ensures { n ≡ 0 → table.new ≡ table.old }
 {
     if n == 0 {
         return;
     }
-    let mut left = 1 + below(state, 3);
-    while 0 < left {
-        repeat_one(state, table, n);
-        left -= 1;
+    for _ in 0..1 + chance.below(3) {
+        repeat_one(chance, table, n);
     }
 }

@@ -1,5 +1,6 @@
 // How many records tables have, and the version for so many.
-ghost use Rattle.std.specs.Prelude.{◌≤◌};
+ghost use Rattle.std.specs.Prelude.{◌≡◌};
+ghost use Rattle.scenes.specs.Sizes.{version_of};
 
 // The most records of a table of version 1.
 pub const LINE: u32 = 2_000;
@@ -18,7 +19,7 @@ pub const TABLE_BYTES: usize = 8 + 16 * MOST as usize + 33;
 
 // The version for n records.
 pub(crate) fn version_for(n: u32) -> u32
-    ensures { result ≤ 2 }
+    ensures { result ≡ version_of n }
 {
     if n <= LINE { 1 } else { 2 }
 }

@@ -1,69 +1,86 @@
-// How an answer is packed into 64 bits.
-ghost use Rattle.std.specs.Prelude.{◌+◌, ◌*◌, ◌^◌, ◌≤◌, ◌<◌};
+// The refusals, and how an answer is packed into 64 bits.
+ghost use Rattle.std.specs.Prelude.{◌≡◌, ◌+◌, ◌*◌, ◌^◌, ◌≤◌, ◌<◌};
 ghost use Rattle.second.specs.Answer.{highest};
 
-// The refusals' numbers.
-pub(crate) const UNDER_EIGHT_BYTES: u64 = 1;
+// What is wrong with a record, with its refusal's number.
+#[derive(Clone, Copy)]
+pub(crate) enum Flaw {
+    Id = 7,
+    Channel = 8,
+    Class = 9,
+    Flags = 10,
+    Latitude = 11,
+    Longitude = 12,
+    Again = 27,
+}
 
-pub(crate) const OTHER_MARK: u64 = 2;
+// Why a question is refused, with the extra number where there is one: a position, or how much room is needed.
+#[derive(Clone, Copy)]
+pub(crate) enum Refusal {
+    UnderEightBytes,
+    OtherMark,
+    OtherVersion,
+    SixthByte,
+    OtherCount,
+    OtherLength,
+    Record(Flaw, u32),
+    AskedChannel,
+    AskedClass,
+    AskedZone,
+    NotPermitted,
+    AskedSite,
+    NoId,
+    IdPresent(u32),
+    TooShort(u32),
+    TableFull,
+    NoRoom(u32),
+    IdAbsent,
+    TooFar,
+    NotMovable(u32),
+    AskedStandard,
+}
 
-pub(crate) const OTHER_VERSION: u64 = 3;
+impl Refusal {
+    // Its number and its extra number, 0 where there is none.
+    fn numbers(self) -> (u32, u32)
+        ensures { (1 ≤ result.0) × (result.0 ≤ highest) }
+    {
+        match self {
+            Refusal::UnderEightBytes => (1, 0),
+            Refusal::OtherMark => (2, 0),
+            Refusal::OtherVersion => (3, 0),
+            Refusal::SixthByte => (4, 0),
+            Refusal::OtherCount => (5, 0),
+            Refusal::OtherLength => (6, 0),
+            Refusal::Record(flaw, position) => (flaw as u32, position),
+            Refusal::AskedChannel => (13, 0),
+            Refusal::AskedClass => (14, 0),
+            Refusal::AskedZone => (15, 0),
+            Refusal::NotPermitted => (16, 0),
+            Refusal::AskedSite => (17, 0),
+            Refusal::NoId => (18, 0),
+            Refusal::IdPresent(position) => (19, position),
+            Refusal::TooShort(position) => (20, position),
+            Refusal::TableFull => (21, 0),
+            Refusal::NoRoom(need) => (22, need),
+            Refusal::IdAbsent => (23, 0),
+            Refusal::TooFar => (24, 0),
+            Refusal::NotMovable(position) => (25, position),
+            Refusal::AskedStandard => (26, 0),
+        }
+    }
+}
 
-pub(crate) const SIXTH_BYTE: u64 = 4;
-
-pub(crate) const OTHER_COUNT: u64 = 5;
-
-pub(crate) const OTHER_LENGTH: u64 = 6;
-
-pub(crate) const RECORD_ID: u64 = 7;
-
-pub(crate) const RECORD_CHANNEL: u64 = 8;
-
-pub(crate) const RECORD_CLASS: u64 = 9;
-
-pub(crate) const RECORD_FLAGS: u64 = 10;
-
-pub(crate) const RECORD_LATITUDE: u64 = 11;
-
-pub(crate) const RECORD_LONGITUDE: u64 = 12;
-
-pub(crate) const ASKED_CHANNEL: u64 = 13;
-
-pub(crate) const ASKED_CLASS: u64 = 14;
-
-pub(crate) const ASKED_ZONE: u64 = 15;
-
-pub(crate) const NOT_PERMITTED: u64 = 16;
-
-pub(crate) const ASKED_SITE: u64 = 17;
-
-pub(crate) const NO_ID: u64 = 18;
-
-pub(crate) const ID_PRESENT: u64 = 19;
-
-pub(crate) const TOO_SHORT: u64 = 20;
-
-pub(crate) const TABLE_FULL: u64 = 21;
-
-pub(crate) const NO_ROOM: u64 = 22;
-
-pub(crate) const ID_ABSENT: u64 = 23;
-
-pub(crate) const TOO_FAR: u64 = 24;
-
-pub(crate) const NOT_MOVABLE: u64 = 25;
-
-pub(crate) const ASKED_STANDARD: u64 = 26;
-
-pub(crate) const RECORD_AGAIN: u64 = 27;
-
-// The least packed refusal, 2^32.
-const REFUSED: u64 = 4_294_967_296;
-
-// A refusal's number in the high half and its extra number in the low half.
-pub(crate) fn refused(number: u64, extra: u64) -> u64
-    requires { (1 ≤ number) × (number ≤ highest) }
-    ensures { (2 ^ 32 ≤ result) × (result < (highest + 1) * 2 ^ 32) }
+// What is granted in the low half, or a refusal's number in the high half and its extra number in the low one.
+pub(crate) fn packed(answer: Result<u32, Refusal>) -> u64
+    ensures bounded { result < (highest + 1) * 2 ^ 32 }
+    ensures granted { result < 2 ^ 32 → answer ≡ Ok result }
 {
-    number * REFUSED + extra % REFUSED
+    match answer {
+        Ok(granted) => u64::from(granted),
+        Err(refusal) => {
+            let (number, extra) = refusal.numbers();
+            (u64::from(number) << 32) + u64::from(extra)
+        }
+    }
 }

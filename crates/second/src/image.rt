@@ -1,52 +1,42 @@
 // The image of a changed table, written into a second buffer.
-ghost use Rattle.std.specs.Prelude.{◌+◌, ◌≤◌};
-ghost use Rattle.second.specs.Sizes.{capacity, longest};
+ghost use Rattle.std.specs.Prelude.{◌≡◌, ◌+◌, ◌*◌, ◌≤◌, length, IfOk};
+ghost use Rattle.second.specs.Sizes.{capacity};
 
-use super::big_endian::{copy, put_four, put_one, put_two};
-use super::ranges::version_for;
-use super::records::Station;
+use super::answer::Refusal;
+use super::stations::Record;
+use super::versions::version_for;
 
 // The bytes of an image of n stations.
 pub(crate) fn size(n: usize) -> usize
     requires { n ≤ capacity }
-    ensures { result ≤ longest }
+    ensures { result ≡ 8 + 16 * n }
 {
     8 + 16 * n
 }
 
-// Writes the header of n stations.
-pub(crate) fn put_header(image: &mut [u8], n: usize) {
-    put_one(image, 0, 0x46);
-    put_one(image, 1, 0x4D);
-    put_one(image, 2, 0x53);
-    put_two(image, 3, version_for(n as u64));
-    put_one(image, 5, 0);
-    put_two(image, 6, n as u64);
-}
-
-// Copies the records of a run of positions to another position.
-pub(crate) fn copy_records(table: &[u8], from: usize, count: usize, image: &mut [u8], to: usize)
-    requires { (from ≤ capacity) × (count ≤ capacity) × (to ≤ capacity) }
+// Writes the image of the records before a place, of one set in there if there is one, and of those behind; gives its bytes.
+pub(crate) fn put_image(
+    image: &mut [u8],
+    before: &[Record],
+    set_in: &[Record],
+    behind: &[Record],
+) -> Result<u32, Refusal>
+    requires { length before.now + length set_in.now + length behind.now ≤ capacity }
+    ensures { IfOk result (λ need. need ≤ length image.old) }
 {
-    copy(table, 8 + 16 * from, 16 * count, image, 8 + 16 * to);
-}
-
-// Writes a station's record at a position.
-pub(crate) fn put_record(image: &mut [u8], position: usize, station: Station)
-    requires { position ≤ capacity }
-{
-    let at = 8 + 16 * position;
-    put_four(image, at, station.id);
-    put_two(image, at + 4, station.channel);
-    put_one(image, at + 6, station.class);
-    put_one(image, at + 7, station.flags);
-    put_site(image, at + 8, station.north, station.east);
-}
-
-// Writes a site as two words.
-fn put_site(image: &mut [u8], at: usize, north: u64, east: u64)
-    requires { at ≤ longest + 8 }
-{
-    put_four(image, at, north % 4_294_967_296 + 4_294_697_296);
-    put_four(image, at + 4, east % 4_294_967_296 + 4_294_319_296);
+    let n = before.len() + set_in.len() + behind.len();
+    let need = size(n);
+    if image.len() < need {
+        return Err(Refusal::NoRoom(need as u32));
+    }
+    let [v1, v0] = version_for(n).to_be_bytes();
+    let [n1, n0] = (n as u16).to_be_bytes();
+    image[..8].copy_from_slice(&[b'F', b'M', b'S', v1, v0, 0, n1, n0]);
+    let (words, _) = image[8..need].as_chunks_mut::<4>();
+    let (places, _) = words.as_chunks_mut::<4>();
+    let records = before.iter().chain(set_in).chain(behind);
+    for (place, record) in places.iter_mut().zip(records) {
+        *place = *record;
+    }
+    Ok(need as u32)
 }

@@ -1,50 +1,35 @@
 // The question check.
-ghost use Rattle.std.specs.Prelude.{◌+◌, ◌*◌, ◌≤◌, length};
+ghost use Rattle.std.specs.Prelude.{◌≤◌, length, IfOk};
 ghost use Rattle.second.specs.Answer.{Packed};
-ghost use Rattle.second.specs.Sizes.{capacity};
 
-use super::answer::{NO_ROOM, refused};
-use super::pairs::{apart, required, short};
-use super::proposal::{fault, proposed};
-use super::records::{Station, station_at};
-use super::rows::put_row;
-use super::study::judge_study;
+use super::answer::{Refusal, packed};
+use super::asked::Asked;
+use super::rows::{Rows, put_all};
+use super::stations::Station;
+use super::studies::Study;
 
-// Writes the row of a station if it is short to the proposal and not left aside, and gives the place behind it.
-fn put_short(standard: u64, new: Station, s: Station, rows: &mut [u32], at: usize) -> usize
-    requires { at ≤ 1000000000 }
-    ensures { result ≤ at + 3 }
-{
-    if s.id == new.id {
-        return at;
+// Puts the rows of the stations that are short to the proposal and not left aside.
+fn put_short(study: &Study, rows: &mut Rows) {
+    let new = study.proposal.station;
+    let standard = study.proposal.standard;
+    for record in study.table.records {
+        let station = Station::from_record(record);
+        if station.id != new.id && new.is_short(station, standard) {
+            rows.push([
+                station.id,
+                new.site.apart(station.site),
+                new.required(station, standard),
+            ]);
+        }
     }
-    if !short(standard, new, s) {
-        return at;
-    }
-    put_row(rows, at, s.id, apart(new, s), required(standard, new, s))
 }
 
-// Writes the rows of all short stations where there is room, and gives how many numbers they are.
-fn put_check(table: &[u8], n: usize, standard: u64, new: Station, rows: &mut [u32]) -> usize
-    requires { n ≤ capacity }
-    ensures { result ≤ 3 * capacity }
+// How many numbers the rows of the short stations are.
+fn checked(table: &[u8], asked: Asked, rows: &mut [u32]) -> Result<u32, Refusal>
+    ensures { IfOk result (λ need. need ≤ length rows.old) }
 {
-    let mut at: usize = 0;
-    let mut i: usize = 0;
-    while i < n {
-        at = put_short(standard, new, station_at(table, i), rows, at);
-        i += 1;
-    }
-    at
-}
-
-// How many numbers the rows of all short stations are.
-fn count_check(table: &[u8], n: usize, standard: u64, new: Station) -> usize
-    requires { n ≤ capacity }
-    ensures { result ≤ 3 * capacity }
-{
-    let mut none = [0u32; 1];
-    put_check(table, n, standard, new, &mut none)
+    let study = Study::new(table, asked)?;
+    put_all(rows, |rows| put_short(&study, rows))
 }
 
 // The rows id, D, R of the stations that are short to a proposal by a standard; the station of an id is left aside, 0 for none.
@@ -61,19 +46,15 @@ pub fn check(
 ) -> u64
     ensures { Packed (length rows.old) result }
 {
-    let by = standard as u64;
-    let wrong = fault(channel, channel, class, zone, by, lat, lon);
-    let judged = judge_study(table, wrong, aside);
-    let number = judged.number;
-    if number != 0 {
-        return refused(number, judged.extra);
-    }
-    let n = judged.stations;
-    let new = proposed(aside, channel, class, lat, lon);
-    let need = count_check(table, n, by, new);
-    if rows.len() < need {
-        return refused(NO_ROOM, need as u64);
-    }
-    put_check(table, n, by, new, rows);
-    need as u64
+    let asked = Asked {
+        id: aside,
+        first: channel,
+        last: channel,
+        class,
+        zone,
+        standard,
+        lat,
+        lon,
+    };
+    packed(checked(table, asked, rows))
 }

@@ -1,30 +1,34 @@
 // R by a standard: 1 for Table A; 2 for the lesser table, and Table A where that does not list the column.
-ghost use Rattle.std.specs.Prelude.{◌<◌};
+ghost use Rattle.std.specs.Prelude.{◌<◌, MatchOption};
 
 use super::lesser::lesser_in;
 use super::table_a::{column, separation_in};
 
-// Table A.
+// Table A; any number but 2 goes by it.
 pub const TABLE_A: u64 = 1;
 
 // The lesser table.
 pub const LESSER: u64 = 2;
 
+// R of two channels and two classes by a standard; none where there is no requirement.
+fn required(standard: u64, channel1: u64, class1: u64, channel2: u64, class2: u64) -> Option<u64>
+    ensures { MatchOption result (Unit {0}) (λ r. (0 < r) × (r < 1000)) }
+{
+    if channel1 <= 220 && channel2 <= 220 {
+        return None;
+    }
+    let at = column(channel1, channel2);
+    let by_table_a = separation_in(class1, class2, at);
+    if standard == LESSER {
+        lesser_in(class1, class2, at).or(by_table_a)
+    } else {
+        by_table_a
+    }
+}
+
 // R of two channels and two classes by a standard, 0 where there is no requirement.
 pub fn separation(standard: u64, channel1: u64, class1: u64, channel2: u64, class2: u64) -> u64
     ensures { result < 1000 }
 {
-    if channel1 <= 220 {
-        if channel2 <= 220 {
-            return 0;
-        }
-    }
-    let at = column(channel1, channel2);
-    if standard == LESSER {
-        let r = lesser_in(class1, class2, at);
-        if r != 0 {
-            return r;
-        }
-    }
-    separation_in(class1, class2, at)
+    required(standard, channel1, class1, channel2, class2).unwrap_or(0)
 }

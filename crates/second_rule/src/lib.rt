@@ -1,9 +1,9 @@
-// The pair rule a second time: Table A in numbers of twelve digits, the lesser table in numbers of nine, the distance by numbers as
-// sign and size.
+// The pair rule a second time: Table A and the lesser table in numbers of twelve digits, the distance by numbers as sign and size.
 
 #![tactic(auto)]
 
 mod chosen;
+mod groups;
 mod lesser;
 mod signed;
 mod sites;

@@ -1,26 +1,13 @@
 // The distance between two sites, each given as seconds north of the southern end and east of the western end of its range.
-ghost use Rattle.std.specs.Prelude.{◌≡◌, ◌+◌, ◌-◌, ◌*◌, ◌≤◌, ◌<◌};
+ghost use Rattle.std.specs.Prelude.{◌+◌, ◌≤◌, ◌<◌};
 
-use super::signed::{Signed, difference, gap, sum, unlike};
-
-// 10^9, the unit of the fractions.
-const E: u64 = 1_000_000_000;
+use super::signed::{E, Signed};
 
 // Seconds of latitude from one end of the range to the other.
 pub const LATITUDES: u64 = 540_000;
 
 // Seconds of longitude from one end of the range to the other: the whole circle.
 pub const LONGITUDES: u64 = 1_296_000;
-
-// |a - b|.
-pub(crate) fn apart(a: u64, b: u64) -> u64
-    ensures { result ≡ (a - b) + (b - a) }
-{
-    if a < b {
-        return b - a;
-    }
-    a - b
-}
 
 // Seconds east from one longitude to another, round the whole circle.
 fn eastward(east1: u64, east2: u64) -> u64
@@ -36,8 +23,7 @@ fn longitude_difference(east1: u64, east2: u64) -> u64
     ensures { result ≤ 648000 }
 {
     let way = eastward(east1, east2);
-    let rest = LONGITUDES - way;
-    if rest < way { rest } else { way }
+    way.min(LONGITUDES - way)
 }
 
 // The divisor of step 2 behind the term with the index k.
@@ -59,6 +45,7 @@ fn next_term(t: u64, x: u64, k: u64) -> u64
 }
 
 // t - (t' - (t'' - ..)): the terms from the index k to 9, each taken from the one before it.
+// By recursion, for the first implementation sums from the left, and the two are to differ.
 fn series(t: u64, x: u64, k: u64) -> u64
     requires { (t ≤ 1000000000) × (x ≤ 1400000000) × (k ≤ 9) }
     ensures { result ≤ t }
@@ -69,91 +56,60 @@ fn series(t: u64, x: u64, k: u64) -> u64
     t - series(next_term(t, x, k), x, k + 1)
 }
 
-// c1, from the mean latitude in half-seconds.
-fn cosine(h: u64) -> Signed
-    requires { h ≤ 540000 }
-    ensures { result.size ≤ 1000000000 }
-{
-    let x = h * 2_424_068_405_548 / E;
-    Signed {
-        minus: false,
-        size: series(E, x, 0),
-    }
+// A cosine: no larger than 1 in size.
+#[derive(Clone, Copy)]
+struct Cosine {
+    value: Signed,
+    ghost at_most_one: { value.size ≤ 1000000000 },
 }
 
-// a × b / E of two cosines.
-fn product(a: Signed, b: Signed) -> Signed
-    requires { (a.size ≤ 1000000000) × (b.size ≤ 1000000000) }
-    ensures { result.size ≤ 1000000000 }
-{
-    let x = a.size;
-    let y = b.size;
-    Signed {
-        minus: unlike(a.minus, b.minus),
-        size: x * y / E,
+impl Cosine {
+    // c1, from the mean latitude in half-seconds.
+    fn of_half_seconds(h: u64) -> Cosine
+        requires { h ≤ 540000 }
+    {
+        let x = h * 2_424_068_405_548 / E;
+        Cosine {
+            value: Signed::from(series(E, x, 0)),
+        }
     }
-}
 
-// 2(c × c / E) - E: the cosine of the double angle.
-fn doubled(c: Signed) -> Signed
-    requires { c.size ≤ 1000000000 }
-    ensures { result.size ≤ 1000000000 }
-{
-    let square = product(c, c);
-    gap(2 * square.size, E)
+    // 2(c × c / E) - E: the cosine of the double angle.
+    fn doubled(self) -> Cosine {
+        let square = self.value * self.value;
+        Cosine {
+            value: Signed::difference(2 * square.size, E),
+        }
+    }
 }
 
 // 2(a × b / E) - c.
-fn twice_less(a: Signed, b: Signed, c: Signed) -> Signed
-    requires { (a.size ≤ 1000000000) × (b.size ≤ 1000000000) × (c.size ≤ 3000000000) }
+fn twice_less(a: Cosine, b: Cosine, c: Signed) -> Signed
+    requires { c.size ≤ 3000000000 }
     ensures { result.size ≤ 2000000000 + c.size }
 {
-    let p = product(a, b);
-    let twice = Signed {
-        minus: p.minus,
-        size: 2 * p.size,
-    };
-    difference(twice, c)
-}
-
-// n × c / E.
-fn term(n: u64, c: Signed) -> Signed
-    requires { (n ≤ 1200000000) × (c.size ≤ 5000000000) }
-    ensures { result.size ≤ 5 * n }
-{
-    let size = c.size;
-    Signed {
-        minus: c.minus,
-        size: n * size / E,
-    }
+    let product = a.value * b.value;
+    product + product - c
 }
 
 // The size of P.
-fn latitude_degree(c2: Signed) -> u64
-    requires { c2.size ≤ 1000000000 }
+fn latitude_degree(c2: Cosine) -> u64
     ensures { result ≤ 5600000000 }
 {
-    let c4 = doubled(c2);
-    let whole = Signed {
-        minus: false,
-        size: 1_111_320_900,
-    };
-    let p = sum(difference(whole, term(5_660_500, c2)), term(12_000, c4));
+    let c4 = c2.doubled();
+    let p = Signed::from(1_111_320_900) - Signed::from(5_660_500) * c2.value
+        + Signed::from(12_000) * c4.value;
     p.size
 }
 
 // The size of Q.
-fn longitude_degree(c1: Signed, c2: Signed) -> u64
-    requires { (c1.size ≤ 1000000000) × (c2.size ≤ 1000000000) }
+fn longitude_degree(c1: Cosine, c2: Cosine) -> u64
     ensures { result ≤ 5600000000 }
 {
-    let c3 = twice_less(c1, c2, c1);
-    let c4 = doubled(c2);
-    let c5 = twice_less(c1, c4, c3);
-    let q = sum(
-        difference(term(1_114_151_300, c1), term(945_500, c3)),
-        term(1_200, c5),
-    );
+    let c3 = twice_less(c1, c2, c1.value);
+    let c5 = twice_less(c1, c2.doubled(), c3);
+    let q = Signed::from(1_114_151_300) * c1.value - Signed::from(945_500) * c3
+        + Signed::from(1_200) * c5;
     q.size
 }
 
@@ -179,9 +135,9 @@ fn squared_distance(north1: u64, east1: u64, north2: u64, east2: u64) -> u64 {
     let n2 = north2 % (LATITUDES + 1);
     let e1 = east1 % (LONGITUDES + 1);
     let e2 = east2 % (LONGITUDES + 1);
-    let c1 = cosine(apart(n1 + n2, LATITUDES));
-    let c2 = doubled(c1);
-    let ns = leg(apart(n1, n2), latitude_degree(c2));
+    let c1 = Cosine::of_half_seconds(LATITUDES.abs_diff(n1 + n2));
+    let c2 = c1.doubled();
+    let ns = leg(n1.abs_diff(n2), latitude_degree(c2));
     let ew = leg(longitude_difference(e1, e2), longitude_degree(c1, c2));
     square(ns) + square(ew)
 }
@@ -197,13 +153,10 @@ fn within(s: u64, d: u64) -> bool
 fn beyond(s: u64, d: u64) -> bool
     requires { d ≤ 65536 }
 {
-    if d == 0 {
-        return true;
-    }
-    square(10_000 * d - 5_000) <= s
+    d == 0 || square(10_000 * d - 5_000) <= s
 }
 
-// D: the whole km that meets both inequalities of step 6, found by halving.
+// D: the whole km that meets both inequalities of step 6, found by halving, for the first implementation takes the root.
 fn rounded(s: u64) -> u64
     ensures { result ≤ 65536 }
 {
@@ -222,7 +175,7 @@ fn rounded(s: u64) -> u64
     low
 }
 
-// D of two sites.
+// D of two sites, as four numbers, for each caller holds its sites in a struct of its own.
 pub fn kilometres(north1: u64, east1: u64, north2: u64, east2: u64) -> u64
     ensures { result ≤ 65536 }
 {

@@ -1,19 +1,18 @@
 -- The box around a site that the class which keeps the most gives: no station outside it is short. Assumes nothing.
 use mathlib.Core.Path.{◌≡◌}
-use mathlib.Core.List.{List}
 use mathlib.Core.Logic.{◌⊎◌, inl, inr}
 use Prim.Native.Nat.{ℕ, ◌-◌, ◌*◌, ◌/◌, ◌≤◌, ◌<◌}
 use native.Mathlib.Nat.{le_trans, mul-le-mul_left, le-div_iff_mul-le, div-add-mod'}
 use native.Mathlib.Omega.{arith}
 use native.Mathlib.Decide.{dec_lt}
 use lib.Dec.{lit<}
-use lib.ListN.{get_or}
 use Rattle.distance.specs.Distance.{S, lat_gap, lon_gap}
 use Rattle.part73.specs.Separations.{Separations}
 use Rattle.squares.specs.Squares.{limit_of}
 use Rattle.spacing.specs.Limits.{north_of, east_of, north_at, east_at, LimitsAt}
 use Rattle.spacing.specs.Reaching.{InRange, Beyond, Seconds, Surrounds}
 use Rattle.spacing.specs.declared.Around.{Around}
+use Rattle.spacing.specs.declared.Limits.{Limits}
 use Rattle.spacing.specs.declared.Place.{Place}
 use Rattle.spacing.proofs.Rule.{far_clear}
 use Rattle.spacing.proofs.Shortcuts.{north_far, east_far}
@@ -43,17 +42,17 @@ north-seconds : (r : ℕ) → r ≤ 290 → Seconds (north_of r)
 unfolding north_of east_of
 north-seconds r h = east-seconds 1105648400 r (lit< tt) h
 
-module _ {km : ℕ → ℕ → ℕ → ℕ} (table : Separations km) {p : Place} {limits : List ℕ} (mine : InRange p) (w : LimitsAt km p limits) where
+module _ {km : ℕ → ℕ → ℕ → ℕ} (table : Separations km) {p : Place} {limits : Limits} (mine : InRange p) (w : LimitsAt km p limits) where
   widest-most : km p.class 7 0 ≤ 290
   widest-most = table.most p.class 7 0 mine.known (lit< tt) (lit< tt)
 
-  pub up-seconds : Seconds (get_or limits (north_at 7) 0)
+  pub up-seconds : Seconds (north_at limits 7)
   up-seconds = rw (w.north 7 (lit< tt)) (north-seconds (km p.class 7 0) widest-most)
 
-  pub across-seconds : Seconds (get_or limits (east_at 7) 0)
-  across-seconds = rw (w.east 7 (lit< tt)) (east-seconds w.scale (km p.class 7 0) w.least.some widest-most)
+  pub across-seconds : Seconds (east_at limits 7)
+  across-seconds = rw (w.east 7 (lit< tt)) (east-seconds limits.scale (km p.class 7 0) w.least.some widest-most)
 
-  pub surrounds : (a : Around) → a.latitude ≡ p.latitude → a.longitude ≡ p.longitude → a.up ≡ get_or limits (north_at 7) 0 → a.across ≡ get_or limits (east_at 7) 0 → Surrounds km p a
+  pub surrounds : (a : Around) → a.latitude ≡ p.latitude → a.longitude ≡ p.longitude → a.up ≡ north_at limits 7 → a.across ≡ east_at limits 7 → Surrounds km p a
   surrounds a lat lon up across =
       record {
         fair = record { middle = rw (lat, lon) mine.placed; up = rw up up-seconds; across = rw across across-seconds };
@@ -66,7 +65,7 @@ module _ {km : ℕ → ℕ → ℕ → ℕ} (table : Separations km) {p : Place}
           wide : km p.class q.class 0 ≤ km p.class 7 0
           wide = table.widest p.class q.class mine.known their.known
 
-          go : Dec (lat_gap p.latitude q.latitude < north_of (km p.class q.class 0)) → (get_or limits (north_at 7) 0 ≤ lat_gap p.latitude q.latitude) ⊎ (get_or limits (east_at 7) 0 ≤ lon_gap p.longitude q.longitude) → limit_of (km p.class q.class 0) ≤ S p.latitude p.longitude q.latitude q.longitude
+          go : Dec (lat_gap p.latitude q.latitude < north_of (km p.class q.class 0)) → (north_at limits 7 ≤ lat_gap p.latitude q.latitude) ⊎ (east_at limits 7 ≤ lon_gap p.longitude q.longitude) → limit_of (km p.class q.class 0) ≤ S p.latitude p.longitude q.latitude q.longitude
           go (no n) d = north_far table mine their (omega arith)
           go (yes l) (inl u) = absurd (omega (arith, u, l, w.north 7 (lit< tt), north-up _ _ wide))
-          go (yes l) (inr v) = east_far table mine their w.scale w.least l (omega (arith, v, w.east 7 (lit< tt), east-up w.scale _ _ (omega (arith, w.least.some)) wide))
+          go (yes l) (inr v) = east_far table mine their limits.scale w.least l (omega (arith, v, w.east 7 (lit< tt), east-up limits.scale _ _ (omega (arith, w.least.some)) wide))

@@ -1,7 +1,7 @@
 pub mod Places
 pub mod Rule
 pub mod Reaching
-pub mod Limits
+pub mod Limited
 pub mod Shortcuts
 pub mod Boxes
 pub mod Meaning

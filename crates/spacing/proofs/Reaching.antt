@@ -1,7 +1,6 @@
 -- How far two stations reach along the channels, by S and four squares that fall. Assumes nothing.
-use mathlib.Core.Path.{◌≡◌, sym, ap, ◌∙◌}
-use mathlib.Core.Bool.{Bool, false}
-use mathlib.Core.List.{List}
+use mathlib.Core.Path.{◌≡◌, refl, sym, ap, ◌∙◌}
+use mathlib.Core.Bool.{false}
 use Prim.Native.Nat.{ℕ, zero, suc, ◌^◌, ◌≤◌, ◌<◌}
 use native.Mathlib.Omega.{arith}
 use native.Mathlib.Decide.{ℕ_discrete, dec_lt}
@@ -15,8 +14,9 @@ use Rattle.part73.specs.Separations.{Separations}
 use Rattle.part73.proofs.Facts.{column-low, column_53, column_54, column_none}
 use Rattle.spacing.specs.Pair.{separation, square_of, distance_of, short_by}
 use Rattle.squares.specs.Squares.{limit_of}
-use Rattle.spacing.specs.Limits.{LimitsAt, squares_of, Falling, Under}
+use Rattle.spacing.specs.Limits.{LimitsAt, square_at, Falling, Under}
 use Rattle.spacing.specs.Reaching.{InRange, hits, Reaches}
+use Rattle.spacing.specs.declared.Limits.{Limits}
 use Rattle.spacing.specs.declared.Place.{Place}
 use Rattle.spacing.specs.declared.Reach.{Reach}
 use Rattle.spacing.proofs.Rule.{for_open, S_small, by_limit, by_none, limits_fall}
@@ -30,46 +30,45 @@ module _ {square : ℕ → ℕ} (f : Falling square) where
   f1 : square 2 ≤ square 1
   f1 = f.on 1 (lit< tt)
 
-  f2 : square 3 ≤ square 2
-  f2 = f.on 2 (lit< tt)
+-- so many steps, and the last column by its square
+abbrev told : (ℕ → ℕ) → ℕ → ℕ → Reach
+told square s n = record { steps = n; far = ltb s (square 3) }
 
 module _ {square : ℕ → ℕ} {s : ℕ} where
   -- all that has to be told
-  under : (r : Reach) → r.steps ≤ 4 → ltb 0 r.steps ≡ ltb s (square 0) → ltb 1 r.steps ≡ ltb s (square 1) → ltb 2 r.steps ≡ ltb s (square 2) → ltb 3 r.steps ≡ ltb s (square 2) → r.far ≡ ltb s (square 3) → Under square s r
+  under : (n : ℕ) → n ≤ 4 → ltb 0 n ≡ ltb s (square 0) → ltb 1 n ≡ ltb s (square 1) → ltb 2 n ≡ ltb s (square 2) → ltb 3 n ≡ ltb s (square 2) → Under square s (told square s n)
   unfolding column given
-  under r m e0 e1 e2 e3 last = record { most = m; low = go; last = last }
+  under n m e0 e1 e2 e3 = record { most = m; low = go; last = refl }
     where
-      go : (d : ℕ) → d ≤ 3 → ltb d r.steps ≡ ltb s (square (column d))
+      go : (d : ℕ) → d ≤ 3 → ltb d n ≡ ltb s (square (column d))
       go zero h = e0
       go (suc zero) h = e1
       go (suc (suc zero)) h = e2
       go (suc (suc (suc zero))) h = e3
       go (suc (suc (suc (suc d)))) h = absurd (omega arith)
 
-module _ {square : ℕ → ℕ} {s : ℕ} (f : Falling square) where
-  pub under_0 : square 0 ≤ s → Under square s (record { steps = 0; far = false })
-  under_0 h =
-      let a = f0 f in
-      let b = f1 f in
-      let c = f2 f in
-      under _ (omega arith) (sym (le-ltb s (square 0) h)) (sym (le-ltb s (square 1) (omega arith))) (sym (le-ltb s (square 2) (omega arith))) (sym (le-ltb s (square 2) (omega arith))) (sym (le-ltb s (square 3) (omega arith)))
+  module _ (f : Falling square) where
+    pub under_0 : square 0 ≤ s → Under square s (told square s 0)
+    under_0 h =
+        let a = f0 f in
+        let b = f1 f in
+        under _ (omega arith) (sym (le-ltb s (square 0) h)) (sym (le-ltb s (square 1) (omega arith))) (sym (le-ltb s (square 2) (omega arith))) (sym (le-ltb s (square 2) (omega arith)))
 
-  module _ (far : Bool) (last : far ≡ ltb s (square 3)) where
-    pub under_1 : s < square 0 → square 1 ≤ s → Under square s (record { steps = 1; far = far })
+    pub under_1 : s < square 0 → square 1 ≤ s → Under square s (told square s 1)
     under_1 l h =
         let b = f1 f in
-        under _ (omega arith) (sym (lt-ltb s (square 0) l)) (sym (le-ltb s (square 1) h)) (sym (le-ltb s (square 2) (omega arith))) (sym (le-ltb s (square 2) (omega arith))) last
+        under _ (omega arith) (sym (lt-ltb s (square 0) l)) (sym (le-ltb s (square 1) h)) (sym (le-ltb s (square 2) (omega arith))) (sym (le-ltb s (square 2) (omega arith)))
 
-    pub under_2 : s < square 1 → square 2 ≤ s → Under square s (record { steps = 2; far = far })
+    pub under_2 : s < square 1 → square 2 ≤ s → Under square s (told square s 2)
     under_2 l h =
         let a = f0 f in
-        under _ (omega arith) (sym (lt-ltb s (square 0) (omega arith))) (sym (lt-ltb s (square 1) l)) (sym (le-ltb s (square 2) h)) (sym (le-ltb s (square 2) h)) last
+        under _ (omega arith) (sym (lt-ltb s (square 0) (omega arith))) (sym (lt-ltb s (square 1) l)) (sym (le-ltb s (square 2) h)) (sym (le-ltb s (square 2) h))
 
-    pub under_4 : s < square 2 → Under square s (record { steps = 4; far = far })
+    pub under_4 : s < square 2 → Under square s (told square s 4)
     under_4 l =
         let a = f0 f in
         let b = f1 f in
-        under _ (omega arith) (sym (lt-ltb s (square 0) (omega arith))) (sym (lt-ltb s (square 1) (omega arith))) (sym (lt-ltb s (square 2) l)) (sym (lt-ltb s (square 2) l)) last
+        under _ (omega arith) (sym (lt-ltb s (square 0) (omega arith))) (sym (lt-ltb s (square 1) (omega arith))) (sym (lt-ltb s (square 2) l)) (sym (lt-ltb s (square 2) l))
 
 -- ---- at each difference
 
@@ -101,13 +100,13 @@ module _ {km : ℕ → ℕ → ℕ → ℕ} (table : Separations km) where
           let z : ltb (D s) (km a b (column d)) ≡ false = rw (column_none d l n m) (by_none table a b ha hb s) in
           z ∙ rw (over l, ne_eqb d 53 n, ne_eqb d 54 m)
 
-  module _ {p q : Place} {limits : List ℕ} (w : LimitsAt km p limits) (mine : InRange p) (their : InRange q) where
-    pub falling : Falling (squares_of limits q.class)
+  module _ {p q : Place} {limits : Limits} (w : LimitsAt km p limits) (mine : InRange p) (their : InRange q) where
+    pub falling : Falling (square_at limits q.class)
     falling =
         record { on = λ c h. rw (w.square q.class (suc c) their.known (omega arith), w.square q.class c their.known (omega arith)) (limits_fall table p.class q.class mine.known their.known c h) }
 
     -- by the squares that the limits have
-    pub reaches : {r : Reach} → Under (squares_of limits q.class) (S p.latitude p.longitude q.latitude q.longitude) r → Reaches km p q r
+    pub reaches : {r : Reach} → Under (square_at limits q.class) (S p.latitude p.longitude q.latitude q.longitude) r → Reaches km p q r
     unfolding short_by separation distance_of square_of
     reaches {r} u =
         record {

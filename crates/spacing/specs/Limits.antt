@@ -1,10 +1,10 @@
 -- Inside: the pair rule by squared limits, as the code goes by it. Assumes nothing.
-use Rattle.std.specs.Prelude.{◌≡◌, List, ℕ, suc, ◌+◌, ◌-◌, ◌*◌, ◌/◌, ◌%◌, ◌≤◌, ◌<◌, ltb, length, get_or}
-use Rattle.ground.specs.Guard.{given}
+use Rattle.std.specs.Prelude.{◌≡◌, List, [], ℕ, suc, ◌+◌, ◌-◌, ◌*◌, ◌/◌, ◌≤◌, ◌<◌, ltb, get_or}
 use Rattle.distance.specs.Bounds.{LeastScale}
 use Rattle.part73.specs.Columns.{column}
 use Rattle.part73.specs.Separations.{Separations}
-use Rattle.squares.specs.Squares.{limit_of, entry}
+use Rattle.squares.specs.Squares.{limit_of}
+use Rattle.spacing.specs.declared.Limits.{Limits}
 use Rattle.spacing.specs.declared.Place.{Place}
 use Rattle.spacing.specs.declared.Reach.{Reach}
 
@@ -16,58 +16,41 @@ north_of r = (10000 * r - 5000) * 3600000 / 1105648400 + 1
 unfoldable pub east_of : ℕ → ℕ → ℕ
 east_of scale r = (10000 * r - 5000) * 3600000 / scale + 1
 
--- where the limits of a class have, against the class b, the square in a column, and the seconds that clear the first column's
-abbrev pub square_at : ℕ → ℕ → ℕ
-square_at b c = 4 * b + c
+-- what the limits of a class have against the class b: the square in a column, and the seconds that clear the first column's
+abbrev pub square_at : Limits → ℕ → ℕ → ℕ
+square_at limits b c = get_or (get_or limits.squares b []) c 0
 
-abbrev pub north_at : ℕ → ℕ
-north_at b = 32 + b
+abbrev pub north_at : Limits → ℕ → ℕ
+north_at limits b = get_or limits.north b 0
 
-abbrev pub east_at : ℕ → ℕ
-east_at b = 40 + b
+abbrev pub east_at : Limits → ℕ → ℕ
+east_at limits b = get_or limits.east b 0
 
 -- the limits of a class at a latitude
-pub record LimitsAt (km : ℕ → ℕ → ℕ → ℕ) (p : Place) (limits : List ℕ) : Type 0 where
-  pub square : (b c : ℕ) → b < 8 → c < 4 → get_or limits (square_at b c) 0 ≡ limit_of (km p.class b c)
-  pub north : (b : ℕ) → b < 8 → get_or limits (north_at b) 0 ≡ north_of (km p.class b 0)
-  pub scale : ℕ
-  pub least : LeastScale p.latitude scale
-  pub east : (b : ℕ) → b < 8 → get_or limits (east_at b) 0 ≡ east_of scale (km p.class b 0)
+pub record LimitsAt (km : ℕ → ℕ → ℕ → ℕ) (p : Place) (limits : Limits) : Type 0 where
+  pub square : (b c : ℕ) → b < 8 → c < 4 → square_at limits b c ≡ limit_of (km p.class b c)
+  pub north : (b : ℕ) → b < 8 → north_at limits b ≡ north_of (km p.class b 0)
+  pub least : LeastScale p.latitude limits.scale
+  pub east : (b : ℕ) → b < 8 → east_at limits b ≡ east_of limits.scale (km p.class b 0)
 
 -- limits that are by a table of separations, whichever
-pub record Limited (km : ℕ → ℕ → ℕ → ℕ) (p : Place) (limits : List ℕ) : Type 0 where
+pub record Limited (km : ℕ → ℕ → ℕ → ℕ) (p : Place) (limits : Limits) : Type 0 where
   pub table : Separations km
   pub at : LimitsAt km p limits
 
 -- limits that are by some table of separations
-pub record ByTable (p : Place) (limits : List ℕ) : Type 0 where
+pub record ByTable (p : Place) (limits : Limits) : Type 0 where
   pub km : ℕ → ℕ → ℕ → ℕ
   pub limited : Limited km p limits
-
--- the limits of a class so far as its row of the table of squares has them
-pub record FromRow (squares : List (List (List ℕ))) (class : ℕ) (out : List ℕ) : Type 0 where
-  pub long : length out ≡ 48
-  pub square : (k : ℕ) → k < 32 → get_or out k 0 ≡ entry squares class (k / 4) (k % 4)
-
--- the place k past them, from the co-channel separations of the class
-unfoldable pub seconds_at : List ℕ → ℕ → ℕ → ℕ
-seconds_at separations scale k = given (ltb k 40) (north_of (get_or separations (k - 32) 0)) (east_of scale (get_or separations (k - 40) 0))
 
 -- separations of 1 to 290 km
 pub record InKm (separations : List ℕ) : Type 0 where
   pub some : (b : ℕ) → b < 8 → 0 < get_or separations b 0
   pub most : (b : ℕ) → b < 8 → get_or separations b 0 ≤ 290
 
--- what such a place asks
-pub record SecondsAsked (separations : List ℕ) (scale k : ℕ) : Type 0 where
-  pub in_km : InKm separations
-  pub some : 0 < scale
-  pub low : 32 ≤ k
-  pub high : k < 48
-
--- the squares in the four columns against one class
-abbrev pub squares_of : List ℕ → ℕ → ℕ → ℕ
-squares_of limits b c = get_or limits (square_at b c) 0
+-- the seconds that clear such a separation from each class, where no degree is shorter than scale
+pub record Cleared (separations : List ℕ) (scale : ℕ) (out : List ℕ) : Type 0 where
+  pub at : (b : ℕ) → b < 8 → get_or out b 0 ≡ east_of scale (get_or separations b 0)
 
 -- four squares do not rise from column to column
 pub record Falling (square : ℕ → ℕ) : Type 0 where

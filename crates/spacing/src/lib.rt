@@ -3,20 +3,20 @@
 
 ghost use Rattle.std.specs.Prelude.{◌≡◌, ℕ, ◌<◌};
 ghost use Rattle.distance.specs.Distance.{S};
+ghost use Rattle.part73.specs.Columns.{IsColumn};
 ghost use Rattle.part73.specs.Reading.{Tabled};
 ghost use Rattle.spacing.specs.Pair.{sited, exempt, column_for, separation, short_by};
-ghost use Rattle.spacing.specs.Limits.{Limited, Falling, Under, squares_of};
+ghost use Rattle.spacing.specs.Limits.{Limited, Falling, Under, square_at};
 ghost use Rattle.spacing.specs.Reaching.{InRange, hits, Reaches, Clears};
 
 mod limiting;
 mod surroundings;
 
-use limiting::{east_in, north_in, square_in};
+use distance::Site;
 pub use limiting::{limits_by, limits_of};
 use part73::Rows;
-pub use surroundings::box_around;
 
-// A class at a site.
+// A class at a site, in range or not: `survey::place_of` makes one of any record, so `InRange` is no fact of the type.
 #[derive(Clone, Copy)]
 pub struct Place {
     pub class: usize,
@@ -24,8 +24,16 @@ pub struct Place {
     pub longitude: i32,
 }
 
-// What a class at a latitude is held by against each of the eight: made once for a pass over the table and lent on.
-pub type Limits = [u64; 48];
+// What a class at a latitude is held by against each of the eight: the squares in the four columns, and the seconds of latitude
+// and of longitude that clear the first. Made once for a pass over the table and lent on.
+#[derive(Clone, Copy)]
+pub struct Limits {
+    pub squares: [[u64; 4]; 8],
+    pub north: [u64; 8],
+    pub east: [u64; 8],
+    // No degree of longitude near the latitude is shorter: what `east` goes by, for the law on these limits.
+    pub scale: u64,
+}
 
 // How far along the channels two stations reach.
 #[derive(Clone, Copy)]
@@ -43,88 +51,107 @@ pub struct Around {
     pub across: u32,
 }
 
-// S of two sites.
-pub fn square_between(p: Place, q: Place) -> u64
-    requires { (InRange p) × (InRange q) }
-    ensures { result ≡ S p.latitude p.longitude q.latitude q.longitude }
-{
-    let lat = p.latitude;
-    let lon = p.longitude;
-    let lat2 = q.latitude;
-    let lon2 = q.longitude;
-    distance::squared(lat, lon, lat2, lon2)
-}
-
-// The latitudes alone, or the longitudes alone, put two stations so far apart that they are short on no channels; where they
-// do not, S is to be taken.
-pub fn apart(p: Place, limits: &Limits, q: Place) -> bool
-    requires { (InRange p) × (InRange q) }
-    ensures { (km : ℕ → ℕ → ℕ → ℕ) → Limited km p limits.now → Clears km p q result }
-{
-    let theirs = q.class;
-    let lat = p.latitude;
-    let lat2 = q.latitude;
-    let north = north_in(limits, theirs);
-    if north <= distance::gap_size(lat, lat2) {
-        return true;
+impl Place {
+    // Its site.
+    fn site(self) -> Site
+        ensures { (result.latitude ≡ self.latitude) × (result.longitude ≡ self.longitude) }
+    {
+        Site {
+            latitude: self.latitude,
+            longitude: self.longitude,
+        }
     }
-    let lon = p.longitude;
-    let lon2 = q.longitude;
-    let east = east_in(limits, theirs);
-    east <= distance::lon_gap(lon, lon2)
+
+    // S of two sites.
+    pub fn square_between(self, q: Place) -> u64
+        requires { (InRange self) × (InRange q) }
+        ensures { result ≡ S self.latitude self.longitude q.latitude q.longitude }
+    {
+        distance::squared(self.site(), q.site())
+    }
 }
 
-// How far along the channels two classes reach at S: in which columns it lies below the squares.
-pub fn reach_at(limits: &Limits, theirs: usize, s: u64) -> Reach
-    requires { theirs < 8 }
-    ensures { Falling (squares_of limits.now theirs) → Under (squares_of limits.now theirs) s result }
-{
-    let co_channel = square_in(limits, theirs, 0);
-    if co_channel <= s {
-        return Reach {
-            steps: 0,
-            far: false,
+impl Limits {
+    // The latitudes alone, or the longitudes alone, put two stations so far apart that they are short on no channels; where they
+    // do not, S is to be taken.
+    pub fn apart(&self, p: Place, q: Place) -> bool
+        requires { (InRange p) × (InRange q) }
+        ensures { (km : ℕ → ℕ → ℕ → ℕ) → Limited km p self.now → Clears km p q result }
+    {
+        self.north[q.class] <= distance::gap_size(p.latitude, q.latitude)
+            || self.east[q.class] <= distance::lon_gap(p.longitude, q.longitude)
+    }
+
+    // How far along the channels two classes reach at S: in which columns it lies below the squares.
+    pub fn reach_at(&self, theirs: usize, s: u64) -> Reach
+        requires { theirs < 8 }
+        ensures { Falling (square_at self.now theirs) → Under (square_at self.now theirs) s result }
+    {
+        let squares = &self.squares[theirs];
+        let steps = if squares[0] <= s {
+            0
+        } else if squares[1] <= s {
+            1
+        } else if squares[2] <= s {
+            2
+        } else {
+            4
         };
+        Reach {
+            steps,
+            far: s < squares[3],
+        }
     }
-    let last = square_in(limits, theirs, 3);
-    let far = s < last;
-    let first = square_in(limits, theirs, 1);
-    if first <= s {
-        return Reach { steps: 1, far };
+
+    // How far along the channels a station at p and one at q reach.
+    pub fn reach_of(&self, p: Place, q: Place) -> Reach
+        requires { (InRange p) × (InRange q) }
+        ensures { (km : ℕ → ℕ → ℕ → ℕ) → Limited km p self.now → Reaches km p q result }
+    {
+        self.reach_at(q.class, p.square_between(q))
     }
-    let second = square_in(limits, theirs, 2);
-    if second <= s {
-        return Reach { steps: 2, far };
+
+    // Whether a station at p, on channel x, and one at q, on channel y, are short: far sites first, then the channels, then S.
+    pub fn is_short(&self, x: usize, p: Place, y: usize, q: Place) -> bool
+        requires { (InRange p) × (InRange q) }
+        ensures { (km : ℕ → ℕ → ℕ → ℕ) → Limited km p self.now → result ≡ short_by km (sited p x) (sited q y) }
+    {
+        if self.apart(p, q) {
+            return false;
+        }
+        match column_for(x, y) {
+            Some(column) => {
+                distance::squared(p.site(), q.site()) < self.squares[q.class][column]
+            }
+            None => false,
+        }
     }
-    Reach { steps: 4, far }
 }
 
-// How far along the channels a station at p and one at q reach.
-pub fn reach_of(p: Place, limits: &Limits, q: Place) -> Reach
-    requires { (InRange p) × (InRange q) }
-    ensures { (km : ℕ → ℕ → ℕ → ℕ) → Limited km p limits.now → Reaches km p q result }
-{
-    let theirs = q.class;
-    let s = square_between(p, q);
-    reach_at(limits, theirs, s)
+impl Reach {
+    // Short at a difference of channels.
+    pub fn is_hit(self, d: usize) -> bool
+        ensures { result ≡ hits self d }
+    {
+        d < self.steps || (matches!(d, 53 | 54) && self.far)
+    }
 }
 
 // Both channels are at or below 220.
+#[tactic(auto, using(std::proofs::lemmas::Bool::Decides::nat_tests), unfolding(crate::specs::Pair::exempt))]
 fn is_exempt(x: usize, y: usize) -> bool
     ensures { result ≡ exempt x y }
 {
-    if x <= 220 {
-        return y <= 220;
-    }
-    false
+    x <= 220 && y <= 220
 }
 
-// The column that applies to two channels; 4 where none does.
-pub fn column_for(x: usize, y: usize) -> usize
-    ensures { result ≡ column_for x y }
+// The column that applies to two channels, where one does.
+#[tactic(auto, using(crate::proofs::Rule::for_exempt, crate::proofs::Rule::for_open))]
+pub fn column_for(x: usize, y: usize) -> Option<usize>
+    ensures { IsColumn (column_for x y) result }
 {
     if is_exempt(x, y) {
-        return 4;
+        return None;
     }
     part73::column_of(part73::gap_of(x, y))
 }
@@ -134,47 +161,8 @@ pub fn separation_of(rows: &Rows, x: usize, a: usize, y: usize, b: usize) -> u16
     requires { (a < 8) × (b < 8) }
     ensures { (km : ℕ → ℕ → ℕ → ℕ) → Tabled km rows.now → result ≡ separation km x a y b }
 {
-    let column = column_for(x, y);
-    if column == 4 {
-        return 0;
+    match column_for(x, y) {
+        Some(column) => standards::separation(rows, a, b, column),
+        None => 0,
     }
-    standards::separation(rows, a, b, column)
-}
-
-// Short at a difference of channels, by what is reached.
-pub fn is_hit(r: Reach, d: usize) -> bool
-    ensures { result ≡ hits r d }
-{
-    if d < r.steps {
-        return true;
-    }
-    if d == 53 {
-        return r.far;
-    }
-    if d == 54 {
-        return r.far;
-    }
-    false
-}
-
-// Whether a station at p, on channel x, and one at q, on channel y, are short: far sites first, then the channels, then S.
-pub fn is_short(x: usize, p: Place, limits: &Limits, y: usize, q: Place) -> bool
-    requires { (InRange p) × (InRange q) }
-    ensures { (km : ℕ → ℕ → ℕ → ℕ) → Limited km p limits.now → result ≡ short_by km (sited p x) (sited q y) }
-{
-    if apart(p, limits, q) {
-        return false;
-    }
-    let column = column_for(x, y);
-    if column == 4 {
-        return false;
-    }
-    let theirs = q.class;
-    let lat = p.latitude;
-    let lon = p.longitude;
-    let lat2 = q.latitude;
-    let lon2 = q.longitude;
-    let s = distance::squared(lat, lon, lat2, lon2);
-    let limit = square_in(limits, theirs, column);
-    s < limit
 }

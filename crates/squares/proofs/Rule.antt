@@ -1,11 +1,11 @@
 -- The rule of the table of squares, for any table of separations; that the order of two classes is nothing to it; and where there
 -- is no limit. Assumes nothing.
 use mathlib.Core.Path.{◌≡◌, refl, sym, ap, ◌∙◌}
-use mathlib.Core.Bool.{false, ◌&&◌, and-false, and_comm}
-use mathlib.Core.List.{[]}
+use mathlib.Core.Bool.{true, false, ◌&&◌, and-false, and_comm}
+use mathlib.Core.List.{List, []}
 use Prim.Native.Nat.{ℕ, ◌≤◌, ◌<◌}
 use native.Mathlib.Omega.{arith}
-use borrow.Author.Tests.{lt-ltb, le-ltb, le-leb}
+use borrow.Author.Tests.{lt-ltb, le-ltb, le-leb, leb-true}
 use Rattle.ground.proofs.Guards.{here, on}
 use Rattle.ground.specs.Lists.{build}
 use Rattle.ground.proofs.Built.{get_or-build}
@@ -48,3 +48,11 @@ module _ (km : ℕ → ℕ → ℕ → ℕ) (a b c : ℕ) where
   pub within : a < 8 → b < 8 → c < none → limit_of (km a b c) ≡ limit_for km a b c
   unfolding limit_for is_class
   within ha hb hc = here _ _ _ (rw (le-leb a 7 (omega arith), le-leb b 7 (omega arith), lt-ltb c none hc)) refl
+
+  -- and it stands in the table
+  pub stands : {squares : List (List (List ℕ))} → squares ≡ squared_limits km → is_class a ≡ true → is_class b ≡ true → c ≤ 3 → entry squares a b c ≡ limit_for km a b c
+  unfolding is_class
+  stands e f g h =
+      let ha : a < 8 = omega (arith, leb-true a 7 f) in
+      let hb : b < 8 = omega (arith, leb-true b 7 g) in
+      rw e (rule km a b c ha hb (omega arith) ∙ within ha hb (omega arith))

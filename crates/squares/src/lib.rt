@@ -20,19 +20,13 @@ pub fn by_table_a() -> Squares
 }
 
 // The limit of two classes at a column; 0 where there is none.
-#[tactic(auto, using(crate::proofs::Rule::no_class, crate::proofs::Rule::no_other, crate::proofs::Rule::past_columns))]
+#[tactic(auto, using(crate::proofs::Rule::no_class, crate::proofs::Rule::no_other, crate::proofs::Rule::past_columns, crate::proofs::Rule::stands), unfolding(part73::specs::Classes::is_class))]
 pub fn limit_for(a: u32, b: u32, column: u32) -> u64
     ensures { result ≡ limit_for table_a a b column }
 {
-    if !part73::is_class(a) {
-        return 0;
+    if part73::is_class(a) && part73::is_class(b) && column <= 3 {
+        let squares = by_table_a();
+        return squares[a as usize][b as usize][column as usize];
     }
-    if !part73::is_class(b) {
-        return 0;
-    }
-    if 3 < column {
-        return 0;
-    }
-    let squares = by_table_a();
-    squares[a as usize][b as usize][column as usize]
+    0
 }

@@ -1,4 +1,5 @@
 -- The image of stations that may stand in a table is a table, and has those stations. Assumes nothing.
+use Rattle.std.specs.Prelude.{Ok}
 use mathlib.Core.Path.{◌≡◌, refl, sym, ◌∙◌, ap, ap₂}
 use mathlib.Core.List.Memᴰ
 use mathlib.Core.List.{List, [], ◌∷◌, ◌++◌, append_assoc}
@@ -24,10 +25,8 @@ use Rattle.stations.specs.Image.{station_at, stations, count, headed, numbers, j
 use Rattle.stations.specs.Encode.{record_of, header_of, version_of, encode}
 use Rattle.stations.specs.Lists.{twins, NoPair}
 use Rattle.stations.specs.declared.Station.{Station}
-use Rattle.stations.specs.declared.Verdict.TheVariants.{Sound}
-use Rattle.stations.specs.declared.Judged.TheVariants.{Table}
 use Rattle.stations.proofs.Stages.{all_passed}
-use Rattle.stations.proofs.Table.{Marked}
+use Rattle.stations.proofs.Whole.{Marked}
 use Rattle.stations.proofs.Fine.{Fine, Good, Over}
 use Rattle.stations.proofs.Repeats.{unrepeated}
 
@@ -125,14 +124,14 @@ unfolding encode
 length-encode rs = simp (length-append, length_body, length-header)
 
 -- a fine record with an id above the last has no fault
-pub sound : (t last i : ℕ) (r : Station) → last < r.id → Fine t r → Sound ≡ verdict t last i r
+pub sound : (t last i : ℕ) (r : Station) → last < r.id → Fine t r → (Ok tt) ≡ verdict t last i r
 unfolding verdict latitude_ok longitude_ok
 sound t last i r above f =
     let north = f.placed.north in
     let east = f.placed.east in
     search guards depth 14
 
-scan_all : (rs : List Station) (t i last : ℕ) → Over last rs → Good t rs → scan t i last rs ≡ Sound
+scan_all : (rs : List Station) (t i last : ℕ) → Over last rs → Good t rs → scan t i last rs ≡ (Ok tt)
 unfolding scan
 scan_all [] t i last o g = refl
 scan_all (r ∷ rs) t i last o g =
@@ -171,15 +170,15 @@ module _ (rs : List Station) (few : length rs ≤ limit) where
     stations-image =
         rw counted (build_cong (length rs) _ _ (λ j. rw zero-add) ∙ reads rs (header_of (version_of rs) (length rs)) 0 (length-header _ _) m)
 
-    pub scanned-image : Good (top (version_of rs)) rs → scanned (encode rs) ≡ Sound
+    pub scanned-image : Good (top (version_of rs)) rs → scanned (encode rs) ≡ (Ok tt)
     unfolding scanned
     scanned-image g = rw (stations-image, version) (scan_all rs (top (version_of rs)) 0 0 (λ x m. (g.each x m).counts) g)
 
-    pub repeated-image : NoPair twins rs → repeated (encode rs) ≡ Sound
+    pub repeated-image : NoPair twins rs → repeated (encode rs) ≡ (Ok tt)
     repeated-image c = (unrepeated (encode rs)).1 (rw stations-image c)
 
   -- the encoding of a valid list is accepted, and has its stations
-  pub image-sound : Good (top (version_of rs)) rs → SmallIds rs → NoPair twins rs → (judged (encode rs) ≡ Table (length rs)) × (stations (encode rs) ≡ rs)
+  pub image-sound : Good (top (version_of rs)) rs → SmallIds rs → NoPair twins rs → (judged (encode rs) ≡ Ok (length rs)) × (stations (encode rs) ≡ rs)
   image-sound g h c =
       let m : AllSized rs = λ x o. fine_sized x (g.each x o) (h x o) in
-      (all_passed (encode rs) headed-image (scanned-image m g) (repeated-image m c) ∙ ap Table counted, stations-image m)
+      (all_passed (encode rs) headed-image (scanned-image m g) (repeated-image m c) ∙ ap Ok counted, stations-image m)

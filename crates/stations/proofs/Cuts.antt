@@ -1,4 +1,5 @@
 -- An image, cut at its records. Assumes nothing.
+use Rattle.std.specs.Prelude.{Ok}
 use mathlib.Core.Path.{◌≡◌, sym, ◌∙◌, ap}
 use mathlib.Core.List.{List, ◌∷◌, ◌++◌}
 use Prim.Native.Nat.{ℕ, ◌+◌, ◌*◌, ◌≤◌}
@@ -11,8 +12,7 @@ use Rattle.wire.specs.Be.{Bytes}
 use Rattle.stations.specs.Image.{bytes_at, stations, judged}
 use Rattle.stations.specs.Encode.{record_of, header_of, version_of, encode}
 use Rattle.stations.specs.declared.Station.{Station}
-use Rattle.stations.specs.declared.Judged.TheVariants.{Table}
-use Rattle.stations.proofs.Table.{whole, length-stations}
+use Rattle.stations.proofs.Whole.{whole, length-stations}
 use Rattle.stations.proofs.Image.{body_bytes}
 use Rattle.stations.proofs.Back.{length_record, length_body, length-header}
 
@@ -43,7 +43,7 @@ bytes_at_lem rs i x rest e =
 
 -- ---- an accepted image
 
-module _ (s : List ℕ) (b : Bytes s) (n : ℕ) (e : judged s ≡ Table n) where
+module _ (s : List ℕ) (b : Bytes s) (n : ℕ) (e : judged s ≡ Ok n) where
   -- from the record at i on
   pub drop-image : (i : ℕ) → i ≤ n → drop (8 + 16 * i) s ≡ each record_of (drop i (stations s))
   drop-image i h = sym (body_bytes s b (whole s n e) i h)

@@ -1,4 +1,5 @@
 -- What a judged table says of each of its records. Assumes nothing.
+use Rattle.std.specs.Prelude.{Ok}
 use mathlib.Core.Path.{◌≡◌}
 use mathlib.Core.Logic.{⊎_elim}
 use mathlib.Core.List.Memᴰ
@@ -15,11 +16,9 @@ use Rattle.distance.specs.Distance.{latitude_ok, longitude_ok, Placed}
 use Rattle.versions.specs.Version.{top}
 use Rattle.stations.specs.Image.{station_at, stations, version, verdict, scan, scanned, judged}
 use Rattle.stations.specs.declared.Station.{Station}
-use Rattle.stations.specs.declared.Verdict.TheVariants.{Sound}
-use Rattle.stations.specs.declared.Judged.TheVariants.{Table}
 use Rattle.stations.proofs.Ids.{Ascends}
 use Rattle.stations.proofs.Stages.{unsound, then-sound, scanned-passed}
-use Rattle.stations.proofs.Table.{whole, next}
+use Rattle.stations.proofs.Whole.{whole, next}
 
 -- a record that may stand in a table with flags up to t
 pub record Fine (t : ℕ) (r : Station) : Type 0 where
@@ -31,7 +30,7 @@ pub record Fine (t : ℕ) (r : Station) : Type 0 where
   pub placed : Placed r.latitude r.longitude
 
 -- a record without a fault is such a one, with an id above the last
-pub fine_of : (t last i : ℕ) (r : Station) → verdict t last i r ≡ Sound → (last < r.id) × Fine t r
+pub fine_of : (t last i : ℕ) (r : Station) → verdict t last i r ≡ (Ok tt) → (last < r.id) × Fine t r
 unfolding verdict latitude_ok longitude_ok
 fine_of t last i r e =
     let a = past _ _ _ _ e (unsound _) in
@@ -65,7 +64,7 @@ pub record Good (t : ℕ) (rs : List Station) : Type 0 where
 abbrev pub Over : ℕ → List Station → Type 0
 Over last rs = (x : Station) → x ∈ rs → last < x.id
 
-scan_good : (rs : List Station) (t i last : ℕ) → scan t i last rs ≡ Sound → Over last rs × Good t rs
+scan_good : (rs : List Station) (t i last : ℕ) → scan t i last rs ≡ (Ok tt) → Over last rs × Good t rs
 unfolding scan
 scan_good [] t i last e = (λ x m. absurd (Memᴰ.not-nil m), record { each = λ x m. absurd (Memᴰ.not-nil m); ascends = none })
 scan_good (r ∷ rs) t i last e =
@@ -80,10 +79,10 @@ scan_good (r ∷ rs) t i last e =
       },
     )
 
-pub good : (s : List ℕ) (n : ℕ) → judged s ≡ Table n → Good (top (version s)) (stations s)
+pub good : (s : List ℕ) (n : ℕ) → judged s ≡ Ok n → Good (top (version s)) (stations s)
 unfolding scanned
 good s n e = (scan_good (stations s) (top (version s)) 0 0 (scanned-passed s n e)).1
 
 -- every record of the table is fine
-pub fine_at : (s : List ℕ) (n : ℕ) → judged s ≡ Table n → (i : ℕ) → i < n → Fine (top (version s)) (station_at s i)
+pub fine_at : (s : List ℕ) (n : ℕ) → judged s ≡ Ok n → (i : ℕ) → i < n → Fine (top (version s)) (station_at s i)
 fine_at s n e i h = (good s n e).each (station_at s i) (in_at (stations s) i _ (next (whole s n e) i h))

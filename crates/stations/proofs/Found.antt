@@ -1,17 +1,18 @@
 -- What a stage can find: a fault by its name, with a number below a bound. Assumes nothing.
+use Rattle.std.specs.Prelude.{Ok}
 use mathlib.Core.List.{List, [], ◌∷◌}
 use Prim.Native.Nat.{ℕ, ◌+◌, ◌<◌}
 use native.Mathlib.Omega.{arith}
 use Rattle.ground.proofs.Cases.{either}
-use Rattle.refusals.specs.Faults.{Fault, refusal, UnderEightBytes, MarkDiffers, VersionUnknown, SixthByteSet, CountOutside, LengthWrong, IdNotAscending, ChannelOutside, ClassOver, FlagsOver, LatitudeOutside, LongitudeOutside, Repeated}
+use Rattle.refusals.specs.Faults.{Verdict, refusal}
+use Rattle.refusals.specs.declared.Fault.{Fault}
+use Rattle.refusals.specs.declared.Fault.TheVariants.{UnderEightBytes, MarkDiffers, VersionUnknown, SixthByteSet, CountOutside, LengthWrong, IdNotAscending, ChannelOutside, ClassOver, FlagsOver, LatitudeOutside, LongitudeOutside, Repeated}
 use Rattle.versions.specs.Version.{top}
 use Rattle.stations.specs.Image.{stations, version, faulty, then, numbers, headed, verdict, scan, scanned, repeat_of, repeated}
 use Rattle.stations.specs.declared.Station.{Station}
-use Rattle.stations.specs.declared.Verdict.{Verdict}
-use Rattle.stations.specs.declared.Verdict.TheVariants.{Sound}
 
 pub data Found (bound : ℕ) : Verdict → Type 0 where
-  sound : Found bound Sound
+  sound : Found bound (Ok tt)
   fault : (f : Fault) → (refusal f).number < bound → Found bound (faulty f)
 
 pub found-then : {n : ℕ} {v w : Verdict} → Found n v → Found n w → Found n (then v w)

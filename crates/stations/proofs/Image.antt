@@ -1,4 +1,5 @@
 -- A judged table is the image of its stations: one list has one image. Assumes nothing.
+use Rattle.std.specs.Prelude.{Ok}
 use mathlib.Core.Path.{◌≡◌, refl, sym, ◌∙◌, ap}
 use mathlib.Core.List.{List}
 use Prim.Native.Nat.{ℕ, zero, suc, ◌+◌, ◌-◌, ◌*◌, ◌≤◌}
@@ -12,8 +13,7 @@ use Rattle.wire.proofs.Width.{bytes-be, cut, one_at}
 use Rattle.wire.proofs.Sign.{bytes_signed}
 use Rattle.stations.specs.Image.{station_at, bytes_at, stations, version, judged}
 use Rattle.stations.specs.Encode.{record_of, header_of, encode}
-use Rattle.stations.specs.declared.Judged.TheVariants.{Table}
-use Rattle.stations.proofs.Table.{Whole, whole, next, done, length-stations, version_called}
+use Rattle.stations.proofs.Whole.{Whole, whole, next, done, length-stations, version_called}
 
 module _ (s : List ℕ) (b : Bytes s) where
   -- a record that was read, as bytes again
@@ -75,12 +75,12 @@ module _ (s : List ℕ) (b : Bytes s) where
       )
 
   -- an accepted image is the encoding of its stations
-  pub image_of : (n : ℕ) → judged s ≡ Table n → encode (stations s) ≡ s
+  pub image_of : (n : ℕ) → judged s ≡ Ok n → encode (stations s) ≡ s
   unfolding encode
   image_of n e =
       let w = whole s n e in
       rw (← version_called w, length-stations w, header-bytes w, body_bytes w 0 (omega arith), take-append-drop)
 
 -- one list of stations has one accepted image
-pub one_image : (s u : List ℕ) → Bytes s → Bytes u → (m n : ℕ) → judged s ≡ Table m → judged u ≡ Table n → stations s ≡ stations u → s ≡ u
+pub one_image : (s u : List ℕ) → Bytes s → Bytes u → (m n : ℕ) → judged s ≡ Ok m → judged u ≡ Ok n → stations s ≡ stations u → s ≡ u
 one_image s u b c m n e f h = sym (image_of s b m e) ∙ ap encode h ∙ image_of u c n f

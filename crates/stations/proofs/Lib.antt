@@ -3,7 +3,7 @@ pub mod Changed
 pub mod Pairs
 pub mod Stages
 pub mod Found
-pub mod Table
+pub mod Whole
 pub mod Longer
 pub mod Fine
 pub mod Image

@@ -1,5 +1,6 @@
 -- Lists of stations that may stand in a table, no twins among them: their image is accepted, and has them. Such are the stations of an accepted
 -- table, those of them that pass a test, and those with a record set in or on another channel. Assumes nothing.
+use Rattle.std.specs.Prelude.{Ok}
 use mathlib.Core.Path.{◌≡◌}
 use mathlib.Core.Logic.{⊎_elim}
 use mathlib.Core.Bool.{Bool, false, not}
@@ -20,9 +21,8 @@ use Rattle.stations.specs.Image.{station_at, stations, version, count, judged}
 use Rattle.stations.specs.Encode.{version_of, encode}
 use Rattle.stations.specs.Lists.{has_id, twins, insert, without, onto, onto_if, rechannel, NoPair}
 use Rattle.stations.specs.declared.Station.{Station}
-use Rattle.stations.specs.declared.Judged.TheVariants.{Table}
 use Rattle.stations.proofs.Changed.{in_insert, ascends_insert, length_insert, in_rechannel, ascends_rechannel, length-rechannel}
-use Rattle.stations.proofs.Table.{whole, length-stations}
+use Rattle.stations.proofs.Whole.{whole, length-stations}
 use Rattle.stations.proofs.Fine.{Fine, Good, good}
 use Rattle.stations.proofs.Pairs.{no_pair_keep}
 use Rattle.stations.proofs.Repeats.{no_repeats}
@@ -50,7 +50,7 @@ valid v rs g few small single =
     }
 
 -- the image of a valid list is accepted, and has its stations
-pub valid_image : (rs : List Station) → Valid rs → (judged (encode rs) ≡ Table (length rs)) × (stations (encode rs) ≡ rs)
+pub valid_image : (rs : List Station) → Valid rs → (judged (encode rs) ≡ Ok (length rs)) × (stations (encode rs) ≡ rs)
 valid_image rs k = image-sound rs k.few k.good k.small k.single
 
 -- ---- of an accepted table
@@ -62,7 +62,7 @@ small_ids s b x m =
     let p = in_build (count s) (station_at s) m in
     rw p.2 (omega (arith, be_lt 4 s (8 + 16 * p.0) b))
 
-pub valid_table : (s : List ℕ) → Bytes s → (n : ℕ) → judged s ≡ Table n → Valid (stations s)
+pub valid_table : (s : List ℕ) → Bytes s → (n : ℕ) → judged s ≡ Ok n → Valid (stations s)
 valid_table s b n e =
     let w = whole s n e in
     valid (version s) (stations s) (good s n e) (omega (arith, w.few, length-stations w)) (small_ids s b) (no_repeats s n e)
@@ -82,7 +82,7 @@ unfolding without
 valid_without id ss k = valid_keep (λ x. not (has_id id x)) ss k
 
 -- the table of those stations of an accepted one is accepted, and has just them
-pub part_image : (p : Station → Bool) (s : List ℕ) → Bytes s → (n : ℕ) → judged s ≡ Table n → let rs = keep p (stations s) in (judged (encode rs) ≡ Table (length rs)) × (stations (encode rs) ≡ rs)
+pub part_image : (p : Station → Bool) (s : List ℕ) → Bytes s → (n : ℕ) → judged s ≡ Ok n → let rs = keep p (stations s) in (judged (encode rs) ≡ Ok (length rs)) × (stations (encode rs) ≡ rs)
 part_image p s b n e = valid_image (keep p (stations s)) (valid_keep p (stations s) (valid_table s b n e))
 
 -- ---- with a record set in

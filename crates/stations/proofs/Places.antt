@@ -1,4 +1,5 @@
 -- Where an id stands in an accepted table, or would stand: its ids ascend strictly. Assumes nothing.
+use Rattle.std.specs.Prelude.{Ok}
 use mathlib.Core.Path.{◌≡◌, refl, sym, ◌∙◌}
 use mathlib.Core.Bool.{Bool, true, false}
 use mathlib.Core.List.{List}
@@ -12,12 +13,11 @@ use Rattle.ground.proofs.Firsts.{first_le, first_found, first_past, some_first, 
 use Rattle.ground.proofs.Positions.{ascending_at}
 use Rattle.stations.specs.Image.{station_at, stations, judged}
 use Rattle.stations.specs.Lists.{has_id, from_id}
-use Rattle.stations.specs.declared.Judged.TheVariants.{Table}
-use Rattle.stations.proofs.Table.{whole, next, length-stations}
+use Rattle.stations.proofs.Whole.{whole, next, length-stations}
 use Rattle.stations.proofs.Ids.{Ascends, first_id}
 use Rattle.stations.proofs.Fine.{good}
 
-module _ (s : List ℕ) (n : ℕ) (e : judged s ≡ Table n) where
+module _ (s : List ℕ) (n : ℕ) (e : judged s ≡ Ok n) where
   pub ids_ascend : Ascends (stations s)
   ids_ascend = (good s n e).ascends
 
@@ -26,7 +26,7 @@ module _ (s : List ℕ) (n : ℕ) (e : judged s ≡ Table n) where
       let w = whole s n e in
       ascending_at (stations s) i j _ _ ids_ascend l (next w i (omega arith)) (next w j h)
 
-module _ (s : List ℕ) (n : ℕ) (e : judged s ≡ Table n) (id : ℕ) where
+module _ (s : List ℕ) (n : ℕ) (e : judged s ≡ Ok n) (id : ℕ) where
   -- the position of the first record whose id is not below
   abbrev pub place : ℕ
   place = first (from_id id) (stations s)
@@ -83,7 +83,7 @@ module _ (s : List ℕ) (n : ℕ) (e : judged s ≡ Table n) (id : ℕ) where
       go false h = h
 
 -- the record at a position is the first that has its id
-pub first_own : (s : List ℕ) (n : ℕ) (e : judged s ≡ Table n) (p : ℕ) → p < n → first (has_id (station_at s p).id) (stations s) ≡ p
+pub first_own : (s : List ℕ) (n : ℕ) (e : judged s ≡ Ok n) (p : ℕ) → p < n → first (has_id (station_at s p).id) (stations s) ≡ p
 first_own s n e p h =
     let id = (station_at s p).id in
     let there = some_at (has_id id) (stations s) p (station_at s p) _ (next (whole s n e) p h) (eq-eqb id id refl) in

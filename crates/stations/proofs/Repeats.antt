@@ -1,5 +1,6 @@
 -- Records that are twins: what they agree in, in either order, and by their bytes. What 27 says: a table that is not refused with it
 -- has no two that are twins, and the position that it gives is that of the first that repeats an earlier one. Assumes nothing.
+use Rattle.std.specs.Prelude.{Ok, Err}
 use mathlib.Core.Path.{◌≡◌, refl, sym, ap, ◌∙◌}
 use mathlib.Core.Logic.{◌↔◌}
 use mathlib.Core.Bool.{true, ◌&&◌}
@@ -19,8 +20,9 @@ use Rattle.ground.proofs.Signed.{eq_z_true, eq_z_same}
 use Rattle.wire.specs.Be.{Bytes, be}
 use Rattle.wire.proofs.Width.{be_lt}
 use Rattle.wire.proofs.Le.{two-low, two-high, one_number}
-use Rattle.refusals.specs.declared.Refusal.{Refusal}
-use Rattle.refusals.specs.Faults.{refusal, Repeated}
+use Rattle.refusals.specs.Faults.{Verdict, refusal}
+use Rattle.refusals.specs.declared.Fault.{Fault}
+use Rattle.refusals.specs.declared.Fault.TheVariants.{Repeated}
 use Rattle.repeats.specs.Repeats.{FirstRepeat}
 use Rattle.repeats.specs.Records.{place, high_at, subject_at, agrees}
 use Rattle.repeats.proofs.First.{first_is, one_first}
@@ -29,9 +31,6 @@ use Rattle.stations.specs.Image.{station_at, stations, count, faulty, then, twin
 use Rattle.stations.specs.Lists.{twins, NoPair}
 use Rattle.stations.specs.Meaning.{Repeats}
 use Rattle.stations.specs.declared.Station.{Station}
-use Rattle.stations.specs.declared.Verdict.{Verdict}
-use Rattle.stations.specs.declared.Verdict.TheVariants.{Sound, Faulty}
-use Rattle.stations.specs.declared.Judged.TheVariants.{Table, Refused}
 use Rattle.stations.proofs.Stages.{unsound, repeated-passed}
 use Rattle.stations.proofs.Found.{Found, sound, fault, found-headed, found-scanned}
 use Rattle.stations.proofs.Pairs.{no_pair_build}
@@ -128,12 +127,12 @@ module _ (s : List ℕ) where
   unfolding repeated
   repeat_found r e h = rw e (here _ _ _ (lt-ltb (repeat_of s) (count s) (omega arith)) refl)
 
-  pub repeat_none : (r : ℕ) → r ≡ repeat_of s → count s ≤ r → Sound ≡ repeated s
+  pub repeat_none : (r : ℕ) → r ≡ repeat_of s → count s ≤ r → (Ok tt) ≡ repeated s
   unfolding repeated
   repeat_none r e h = on _ _ _ (le-ltb (repeat_of s) (count s) (omega arith)) refl
 
   -- the stage is passed exactly where no two records are twins
-  pub unrepeated : (repeated s ≡ Sound) ↔ NoPair twins (stations s)
+  pub unrepeated : (repeated s ≡ (Ok tt)) ↔ NoPair twins (stations s)
   unfolding repeated repeat_of stations twins_at
   unrepeated =
       let k = no_pair_build twins (count s) (station_at s) in
@@ -148,29 +147,29 @@ module _ (s : List ℕ) where
       )
 
 -- an accepted table has no two records that are twins
-pub no_repeats : (s : List ℕ) (n : ℕ) → judged s ≡ Table n → NoPair twins (stations s)
+pub no_repeats : (s : List ℕ) (n : ℕ) → judged s ≡ Ok n → NoPair twins (stations s)
 no_repeats s n e = (unrepeated s).0 (repeated-passed s n e)
 
 -- ---- the refusal 27
 
-refused_by : (v : Verdict) (n : ℕ) (f : Refusal) → table_of v n ≡ Refused f → v ≡ Faulty f
-refused_by Sound n f e = let z : ◌≡◌ {A = ℕ} 0 1 = cc in absurd (omega arith)
-refused_by (Faulty g) n f e = cc
+refused_by : (v : Verdict) (n : ℕ) (f : Fault) → table_of v n ≡ Err f → v ≡ Err f
+refused_by (Ok tt) n f e = let z : ◌≡◌ {A = ℕ} 0 1 = cc in absurd (omega arith)
+refused_by (Err g) n f e = cc
 
 -- a stage with lower numbers only was passed
-passed_by : {n : ℕ} {v : Verdict} (w : Verdict) (f : Refusal) → Found n v → n ≤ f.number → then v w ≡ Faulty f → (v ≡ Sound) × (w ≡ Faulty f)
+passed_by : {n : ℕ} {v : Verdict} (w : Verdict) (f : Fault) → Found n v → n ≤ (refusal f).number → then v w ≡ Err f → (v ≡ (Ok tt)) × (w ≡ Err f)
 passed_by w f sound h e = (refl, e)
-passed_by w f (fault g l) h e = let z : (refusal g).number ≡ f.number = cc in absurd (omega arith)
+passed_by w f (fault g l) h e = let z : (refusal g).number ≡ (refusal f).number = cc in absurd (omega arith)
 
 module _ (s : List ℕ) where
-  pub refused_27 : (f : Refusal) → judged s ≡ Refused f → f.number ≡ 27 → Repeats s f.extra
+  pub refused_27 : (f : Fault) → judged s ≡ Err f → (refusal f).number ≡ 27 → Repeats s (refusal f).extra
   unfolding judged stages repeated repeat_of
   refused_27 f e h =
       let a = passed_by _ f (found-headed 27 (omega arith) s) (omega arith) (refused_by _ (count s) f e) in
       let b = passed_by _ f (found-scanned 27 (omega arith) s) (omega arith) a.1 in
       let c = passed_on (repeated s) f b.1 in
       let d = taken _ _ _ _ c (λ z. unsound f (sym z)) in
-      let q : repeat_of s ≡ f.extra = extras d.1 in
+      let q : repeat_of s ≡ (refusal f).extra = extras d.1 in
       record {
         headed = a.0;
         sound = b.0;
@@ -178,14 +177,14 @@ module _ (s : List ℕ) where
         first = rw q at (first_is (twins_at s) (count s));
       }
     where
-      passed_on : (v : Verdict) (f : Refusal) → then v Sound ≡ Faulty f → v ≡ Faulty f
-      passed_on Sound f e = e
-      passed_on (Faulty g) f e = e
+      passed_on : (v : Verdict) (f : Fault) → then v (Ok tt) ≡ Err f → v ≡ Err f
+      passed_on (Ok _) f e = e
+      passed_on (Err g) f e = e
 
-      extras : {f g : Refusal} → Faulty f ≡ Faulty g → f.extra ≡ g.extra
+      extras : {f g : Fault} → ◌≡◌ {A = Verdict} (Err f) (Err g) → (refusal f).extra ≡ (refusal g).extra
       extras e = cc
 
   -- and where nothing else is wrong and a record repeats an earlier one, it is given
-  pub given_27 : (i : ℕ) → Repeats s i → judged s ≡ Refused (refusal (Repeated i))
+  pub given_27 : (i : ℕ) → Repeats s i → judged s ≡ Err (Repeated i)
   unfolding judged stages
   given_27 i w = rw (w.headed, w.sound, ← repeat_found s i (repeat_is s i w.first) w.within)

@@ -1,4 +1,6 @@
--- Sound records are passed over. Assumes nothing.
+-- (Ok tt) records are passed over. Assumes nothing.
+use Rattle.refusals.specs.Faults.{Verdict}
+use Rattle.std.specs.Prelude.{Ok}
 use mathlib.Core.Path.{◌≡◌, refl, sym, ◌∙◌, ap}
 use mathlib.Core.Bool.{Bool, true, false, false≢true}
 use mathlib.Core.List.{List}
@@ -10,9 +12,7 @@ use Rattle.versions.specs.Version.{top}
 use Rattle.stations.specs.Image.{station_from, station_at, version, count, verdict, scanned}
 use Rattle.stations.specs.Scanning.{id_before, scanned_from, Topped, Ahead, Passed}
 use Rattle.stations.specs.declared.Station.{Station}
-use Rattle.stations.specs.declared.Verdict.{Verdict}
-use Rattle.stations.specs.declared.Verdict.TheVariants.{Sound}
-use Rattle.stations.proofs.Table.{whole_headed, scan_on}
+use Rattle.stations.proofs.Whole.{whole_headed, scan_on}
 use Rattle.stations.proofs.Fine.{fine_of}
 use Rattle.stations.proofs.Back.{sound}
 
@@ -48,13 +48,13 @@ module _ (s : List ℕ) where
   unfolding scanned scanned_from
   sound-start = refl
 
-pub one_passed : {s : List ℕ} (t at last : ℕ) (r : Station) (v : Verdict) → Ahead s t 1 at last → r ≡ station_from s at → v ≡ verdict t last 0 r → v ≡ Sound → Passed s (at / 16) 1 true
+pub one_passed : {s : List ℕ} (t at last : ℕ) (r : Station) (v : Verdict) → Ahead s t 1 at last → r ≡ station_from s at → v ≡ verdict t last 0 r → v ≡ (Ok tt) → Passed s (at / 16) 1 true
 unfolding scanned_from
 one_passed {s} t at last r v a er ev e =
     let i = at / 16 in
     let q : r ≡ station_at s i = er ∙ record_at s at a.placed in
-    let y : verdict t last 0 r ≡ Sound = sym ev ∙ e in
-    let z : verdict (top (version s)) (id_before s i) 0 (station_at s i) ≡ Sound = rw (a.topped.flags, a.before, q) at y in
+    let y : verdict t last 0 r ≡ (Ok tt) = sym ev ∙ e in
+    let z : verdict (top (version s)) (id_before s i) 0 (station_at s i) ≡ (Ok tt) = rw (a.topped.flags, a.before, q) at y in
     let h : i < count s = omega (arith, a.within) in
     let b : id_before s (i + 1) ≡ (station_at s i).id = rw add-one in
     let f = fine_of _ _ 0 _ z in

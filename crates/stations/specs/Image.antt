@@ -1,20 +1,18 @@
 -- 01, The table image and its refusals 1 to 12, and 27 of 02, R-7, in the papers' order. Assumes nothing.
-use Rattle.std.specs.Prelude.{◌≡◌, Bool, not, ◌&&◌, ◌||◌, List, [], ◌∷◌, ℕ, ◌+◌, ◌*◌, ltb, leb, eqb, length, get_or, take, drop}
+use Rattle.std.specs.Prelude.{◌≡◌, Bool, not, ◌&&◌, ◌||◌, List, [], ◌∷◌, ℕ, ◌+◌, ◌*◌, ltb, leb, eqb, length, get_or, take, drop, Ok, Err}
 use Rattle.std.specs.Int.{w32}
 use Rattle.std.proofs.Common.{to_z}
 use Rattle.ground.specs.Guard.{given}
 use Rattle.ground.specs.Lists.{build}
 use Rattle.wire.specs.Be.{be}
 use Rattle.distance.specs.Distance.{latitude_ok, longitude_ok}
-use Rattle.refusals.specs.Faults.{Fault, refusal, UnderEightBytes, MarkDiffers, VersionUnknown, SixthByteSet, CountOutside, LengthWrong, IdNotAscending, ChannelOutside, ClassOver, FlagsOver, LatitudeOutside, LongitudeOutside, Repeated}
+use Rattle.refusals.specs.Faults.{Verdict, Answer, refusal}
+use Rattle.refusals.specs.declared.Fault.{Fault}
+use Rattle.refusals.specs.declared.Fault.TheVariants.{UnderEightBytes, MarkDiffers, VersionUnknown, SixthByteSet, CountOutside, LengthWrong, IdNotAscending, ChannelOutside, ClassOver, FlagsOver, LatitudeOutside, LongitudeOutside, Repeated}
 use Rattle.versions.specs.Version.{known, carries, top}
 use Rattle.repeats.specs.Repeats.{first_repeat}
 use Rattle.stations.specs.Lists.{twins}
 use Rattle.stations.specs.declared.Station.{Station}
-use Rattle.stations.specs.declared.Judged.{Judged}
-use Rattle.stations.specs.declared.Judged.TheVariants.{Table, Refused}
-use Rattle.stations.specs.declared.Verdict.{Verdict}
-use Rattle.stations.specs.declared.Verdict.TheVariants.{Sound, Faulty}
 
 -- ---- what an image says
 
@@ -53,12 +51,12 @@ stations s = build (count s) (station_at s)
 -- ---- how it is judged: stage by stage, each sound or with its first fault
 
 abbrev pub faulty : Fault → Verdict
-faulty f = Faulty (refusal f)
+faulty f = Err f
 
 -- where nothing is wrong, what is found next
 abbrev pub then : Verdict → Verdict → Verdict
-then Sound v = v
-then (Faulty f) v = Faulty f
+then (Ok _) v = v
+then (Err f) v = Err f
 
 -- the refusals 3 to 6 of the header
 unfoldable pub numbers : List ℕ → Verdict
@@ -67,7 +65,7 @@ numbers s =
     (given (not (eqb (get_or s 5 0) 0)) (faulty SixthByteSet)
     (given (not (carries (version s) (count s))) (faulty CountOutside)
     (given (not (eqb (length s) (8 + 16 * count s))) (faulty LengthWrong)
-    Sound)))
+    (Ok tt))))
 
 -- the header's: 1, 2, then the numbers'
 unfoldable pub headed : List ℕ → Verdict
@@ -85,11 +83,11 @@ verdict t last i r =
     (given (ltb t r.flags) (faulty (FlagsOver i))
     (given (not (latitude_ok r.latitude)) (faulty (LatitudeOutside i))
     (given (not (longitude_ok r.longitude)) (faulty (LongitudeOutside i))
-    Sound)))))
+    (Ok tt))))))
 
 -- each record in turn, from position i on
 unfoldable pub scan : ℕ → ℕ → ℕ → List Station → Verdict
-scan t i last [] = Sound
+scan t i last [] = Ok tt
 scan t i last (r ∷ rs) = then (verdict t last i r) (scan t (i + 1) r.id rs)
 
 -- the refusals 7 to 12 of the records
@@ -106,7 +104,7 @@ repeat_of s = first_repeat (twins_at s) (count s)
 
 -- the refusal 27 of the table
 unfoldable pub repeated : List ℕ → Verdict
-repeated s = given (ltb (repeat_of s) (count s)) (faulty (Repeated (repeat_of s))) Sound
+repeated s = given (ltb (repeat_of s) (count s)) (faulty (Repeated (repeat_of s))) (Ok tt)
 
 -- the stages, in the papers' order
 unfoldable pub stages : List ℕ → List Verdict
@@ -114,21 +112,21 @@ stages s = headed s ∷ scanned s ∷ repeated s ∷ []
 
 -- the first fault of a row
 abbrev pub first_fault : List Verdict → Verdict
-first_fault [] = Sound
+first_fault [] = Ok tt
 first_fault (v ∷ vs) = then v (first_fault vs)
 
 -- a table of n records, or its refusal
-abbrev pub table_of : Verdict → ℕ → Judged
-table_of Sound n = Table n
-table_of (Faulty f) n = Refused f
+abbrev pub table_of : Verdict → ℕ → Answer
+table_of (Ok _) n = Ok n
+table_of (Err f) n = Err f
 
-unfoldable pub judged : List ℕ → Judged
+unfoldable pub judged : List ℕ → Answer
 judged s = table_of (first_fault (stages s)) (count s)
 
 -- nothing is wrong with the header
 abbrev pub Headed : List ℕ → Type 0
-Headed s = headed s ≡ Sound
+Headed s = headed s ≡ (Ok tt)
 
 -- nothing is wrong with it: it is a table of as many records as its header counts
 abbrev pub Accepted : List ℕ → Type 0
-Accepted s = judged s ≡ Table (count s)
+Accepted s = judged s ≡ Ok (count s)

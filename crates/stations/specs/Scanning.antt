@@ -1,9 +1,9 @@
 -- Inside: the records of a table judged from a position on; what a pass over some of them asks for, and what it says.
 -- Assumes nothing.
+use Rattle.refusals.specs.Faults.{Verdict}
 use Rattle.std.specs.Prelude.{◌≡◌, Bool, true, List, ℕ, zero, suc, ◌+◌, ◌*◌, ◌/◌, ◌≤◌, drop}
 use Rattle.versions.specs.Version.{top}
 use Rattle.stations.specs.Image.{station_at, stations, version, count, scan, scanned, Headed}
-use Rattle.stations.specs.declared.Verdict.{Verdict}
 
 -- the id before a position; 0 before the first
 abbrev pub id_before : List ℕ → ℕ → ℕ

@@ -3,95 +3,72 @@ ghost use Rattle.std.specs.Prelude.{◌≡◌, ◌/◌, ◌≤◌, length};
 ghost use Rattle.stations.specs.Image.{verdict, numbers as numbers_of, headed, scanned, repeated, judged, Headed};
 ghost use Rattle.stations.specs.Scanning.{id_before, Topped, Ahead, Passed, SoundTo};
 
-use crate::reading::{count_of, record_from};
-use crate::{FOUR_RECORDS, HEADER, Judged, MARK, RECORD, Station, Verdict};
-use refusals::Refusal;
+use crate::reading::{count_of, record_from, station_at};
+use crate::{FOUR_RECORDS, HEADER, MARK, RECORD, Station};
+use refusals::Fault;
 use versions::{is_carried, is_known, top_of};
 
-// A refusal of the header.
-fn wrong(number: u32) -> Verdict
-    ensures { result ≡ Verdict.Faulty (record { number = number; extra = 0 }) }
-{
-    Verdict::Faulty(Refusal { number, extra: 0 })
-}
-
-// A refusal of the record at a position.
-fn faulty(number: u32, position: u32) -> Verdict
-    ensures { result ≡ Verdict.Faulty (record { number = number; extra = position }) }
-{
-    Verdict::Faulty(Refusal {
-        number,
-        extra: position,
-    })
-}
-
 // The first of the refusals 3 to 6.
-fn numbers(table: &[u8]) -> Verdict
+#[tactic(auto, using(ground::proofs::Guards::guards), unfolding(crate::specs::Image::numbers, ground::specs::Guard::given))]
+fn numbers(table: &[u8]) -> Result<(), Fault>
     requires { 8 ≤ length table.now }
     ensures { result ≡ numbers_of table.now }
 {
-    let version = wire::get16(table, 3);
-    let n = wire::get16(table, 6) as usize;
+    let version = wire::get::<u16>(table, 3);
+    let n = wire::get::<u16>(table, 6) as usize;
     if !is_known(version) {
-        return wrong(refusals::VERSION_UNKNOWN);
+        return Err(Fault::VersionUnknown);
     }
     if table[5] != 0 {
-        return wrong(refusals::SIXTH_BYTE_SET);
+        return Err(Fault::SixthByteSet);
     }
     if !is_carried(version, n) {
-        return wrong(refusals::COUNT_OUTSIDE);
+        return Err(Fault::CountOutside);
     }
     if table.len() != HEADER + RECORD * n {
-        return wrong(refusals::LENGTH_WRONG);
+        return Err(Fault::LengthWrong);
     }
-    Verdict::Sound
+    Ok(())
 }
 
 // The first of the refusals 1 to 6.
-fn header(table: &[u8]) -> Verdict
+#[tactic(auto, using(ground::proofs::Guards::guards), unfolding(crate::specs::Image::headed, ground::specs::Guard::given))]
+fn header(table: &[u8]) -> Result<(), Fault>
     ensures { result ≡ headed table.now }
 {
     if table.len() < HEADER {
-        return wrong(refusals::UNDER_EIGHT_BYTES);
+        return Err(Fault::UnderEightBytes);
     }
-    if table[0] != MARK[0] {
-        return wrong(refusals::MARK_DIFFERS);
-    }
-    if table[1] != MARK[1] {
-        return wrong(refusals::MARK_DIFFERS);
-    }
-    if table[2] != MARK[2] {
-        return wrong(refusals::MARK_DIFFERS);
+    if table[0] != MARK[0] || table[1] != MARK[1] || table[2] != MARK[2] {
+        return Err(Fault::MarkDiffers);
     }
     numbers(table)
 }
 
 // The first of the refusals 7 to 12 of a record with flags up to `top`, after one with the id `last`.
-fn verdict_of(top: u8, last: u32, position: u32, r: Station) -> Verdict
+#[tactic(auto, using(ground::proofs::Guards::guards), unfolding(crate::specs::Image::verdict, ground::specs::Guard::given))]
+fn verdict_of(top: u8, last: u32, position: u32, r: Station) -> Result<(), Fault>
     ensures { result ≡ verdict top last position r }
 {
     if r.id <= last {
-        return faulty(refusals::ID_NOT_ASCENDING, position);
+        return Err(Fault::IdNotAscending(position));
     }
-    if r.channel < 201 {
-        return faulty(refusals::CHANNEL_OUTSIDE, position);
-    }
-    if 300 < r.channel {
-        return faulty(refusals::CHANNEL_OUTSIDE, position);
+    if r.channel < 201 || 300 < r.channel {
+        return Err(Fault::ChannelOutside(position));
     }
     if 7 < r.class {
-        return faulty(refusals::CLASS_OVER, position);
+        return Err(Fault::ClassOver(position));
     }
     if top < r.flags {
-        return faulty(refusals::FLAGS_OVER, position);
+        return Err(Fault::FlagsOver(position));
     }
     if !distance::latitude_ok(r.latitude) {
-        return faulty(refusals::LATITUDE_OUTSIDE, position);
+        return Err(Fault::LatitudeOutside(position));
     }
     if !distance::longitude_ok(r.longitude) {
-        return faulty(refusals::LONGITUDE_OUTSIDE, position);
+        return Err(Fault::LongitudeOutside(position));
     }
-    Verdict::Sound
+    Ok(())
 }
 
 // Whether the record at a place is sound after one with the id `last`.
@@ -100,14 +77,10 @@ fn one_is_sound(table: &[u8], top: u8, at: usize, last: u32) -> bool
     ensures { Passed table.now (at / 16) 1 result }
 {
     let r = record_from(table, at);
-    let v = verdict_of(top, last, 0, r);
-    if let Verdict::Faulty(f) = v {
-        return false;
-    }
-    true
+    verdict_of(top, last, 0, r).is_ok()
 }
 
-// Whether the four records from a place on are.
+// Whether the four records from a place on are. One record a turn takes three instructions a record more, of fifty-one.
 fn four_are_sound(table: &[u8], top: u8, at: usize, last: u32) -> bool
     requires { Ahead table.now top 4 at last }
     ensures { Passed table.now (at / 16) 4 result }
@@ -115,15 +88,15 @@ fn four_are_sound(table: &[u8], top: u8, at: usize, last: u32) -> bool
     if !one_is_sound(table, top, at, last) {
         return false;
     }
-    let first = wire::get32(table, at);
+    let first = wire::get::<u32>(table, at);
     if !one_is_sound(table, top, at + 16, first) {
         return false;
     }
-    let second = wire::get32(table, at + 16);
+    let second = wire::get::<u32>(table, at + 16);
     if !one_is_sound(table, top, at + 32, second) {
         return false;
     }
-    let third = wire::get32(table, at + 32);
+    let third = wire::get::<u32>(table, at + 32);
     one_is_sound(table, top, at + 48, third)
 }
 
@@ -132,17 +105,16 @@ fn sound_to(table: &[u8], top: u8) -> usize
     requires { Topped table.now top }
     ensures { SoundTo table.now result }
 {
-    let end = table.len();
+    let turns = count_of(table) / 4;
     let mut last: u32 = 0;
-    let mut at = HEADER;
-    while at + FOUR_RECORDS <= end {
+    for turn in 0..turns {
+        let at = HEADER + FOUR_RECORDS * turn;
         if !four_are_sound(table, top, at, last) {
             return at;
         }
-        last = wire::get32(table, at + 48);
-        at += FOUR_RECORDS;
+        last = wire::get(table, at + 48);
     }
-    at
+    HEADER + FOUR_RECORDS * turns
 }
 
 // The id before a place.
@@ -153,62 +125,45 @@ fn id_before(table: &[u8], at: usize) -> u32
     if at == HEADER {
         return 0;
     }
-    wire::get32(table, at - RECORD)
+    wire::get::<u32>(table, at - RECORD)
 }
 
 // The first of the refusals 7 to 12, of the records in turn.
-fn records(table: &[u8]) -> Verdict
+fn records(table: &[u8]) -> Result<(), Fault>
     requires { Headed table.now }
     ensures { result ≡ scanned table.now }
 {
-    let version = wire::get16(table, 3);
+    let version = wire::get::<u16>(table, 3);
     let top = top_of(version);
-    let end = table.len();
-    let mut at = sound_to(table, top);
+    let at = sound_to(table, top);
     let mut last = id_before(table, at);
-    while at < end {
-        let r = record_from(table, at);
-        let i = at / RECORD;
-        let position = i as u32;
-        let v = verdict_of(top, last, position, r);
-        if let Verdict::Faulty(f) = v {
-            return v;
-        }
+    for i in at / RECORD..count_of(table) {
+        let r = station_at(table, i);
+        verdict_of(top, last, i as u32, r)?;
         last = r.id;
-        at += RECORD;
     }
-    Verdict::Sound
+    Ok(())
 }
 
 // The refusal 27, of the first record that repeats an earlier one.
-fn repeat_of(table: &[u8]) -> Verdict
+fn repeat_of(table: &[u8]) -> Result<(), Fault>
     requires { Headed table.now }
     ensures { result ≡ repeated table.now }
 {
     let n = count_of(table);
     let i = repeats::first_repeat(table, n);
     if i < n {
-        let position = i as u32;
-        return faulty(refusals::REPEATED, position);
+        return Err(Fault::Repeated(i as u32));
     }
-    Verdict::Sound
+    Ok(())
 }
 
-// Header, then records, then repeats.
-pub fn judge(table: &[u8]) -> Judged
+// Header, then records, then repeats: how many records the table has, or its first refusal.
+pub fn judge(table: &[u8]) -> Result<usize, Fault>
     ensures { result ≡ judged table.now }
 {
-    let h = header(table);
-    if let Verdict::Faulty(f) = h {
-        return Judged::Refused(f);
-    }
-    let v = records(table);
-    if let Verdict::Faulty(f) = v {
-        return Judged::Refused(f);
-    }
-    let w = repeat_of(table);
-    if let Verdict::Faulty(f) = w {
-        return Judged::Refused(f);
-    }
-    Judged::Table(count_of(table))
+    header(table)?;
+    records(table)?;
+    repeat_of(table)?;
+    Ok(count_of(table))
 }

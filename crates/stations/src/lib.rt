@@ -3,15 +3,16 @@
 
 mod judging;
 mod reading;
+mod table;
 mod writing;
 
 pub use judging::judge;
-pub use reading::{count_of, is_movable, place_of, record_from, station_at, turns_end};
-use refusals::Refusal;
+pub use reading::{count_of, is_movable, record_from, station_at};
+pub use table::Table;
 pub use versions::{HEADER, RECORD};
 pub use writing::{copy, put_header, put_station};
 
-#[derive(Clone, Copy)]
+#[derive(Clone, Copy, Debug, PartialEq, Eq)]
 pub struct Station {
     pub id: u32,
     pub channel: u16,
@@ -19,20 +20,6 @@ pub struct Station {
     pub flags: u8,
     pub latitude: i32,
     pub longitude: i32,
-}
-
-// A table of so many records, or its refusal.
-#[derive(Clone, Copy)]
-pub enum Judged {
-    Table(usize),
-    Refused(Refusal),
-}
-
-// What is found: nothing wrong, or the first fault.
-#[derive(Clone, Copy)]
-pub enum Verdict {
-    Sound,
-    Faulty(Refusal),
 }
 
 const MARK: [u8; 3] = *b"FMS";

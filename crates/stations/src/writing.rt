@@ -14,9 +14,9 @@ pub fn put_header(image: &mut [u8], version: u16, n: u16)
     image[0] = MARK[0];
     image[1] = MARK[1];
     image[2] = MARK[2];
-    wire::put16(image, 3, version);
+    wire::put(image, 3, version);
     image[5] = 0;
-    wire::put16(image, 6, n);
+    wire::put(image, 6, n);
 }
 
 // The sixteen bytes of a record.
@@ -24,16 +24,12 @@ pub fn put_station(image: &mut [u8], at: usize, r: Station)
     requires { at + 16 ≤ length image.old }
     ensures { image.new ≡ sets image.old at (record_of r) }
 {
-    let id = r.id;
-    let channel = r.channel;
-    let latitude = r.latitude;
-    let longitude = r.longitude;
-    wire::put32(image, at, id);
-    wire::put16(image, at + 4, channel);
+    wire::put(image, at, r.id);
+    wire::put(image, at + 4, r.channel);
     image[at + 6] = r.class;
     image[at + 7] = r.flags;
-    wire::put_i32(image, at + 8, latitude);
-    wire::put_i32(image, at + 12, longitude);
+    wire::put(image, at + 8, r.latitude);
+    wire::put(image, at + 12, r.longitude);
 }
 
 // So many bytes of the table from a place on, written from a place of the image on.
@@ -41,9 +37,7 @@ pub fn copy(table: &[u8], from: usize, image: &mut [u8], to: usize, count: usize
     requires { Copies table.now from image.old to count }
     ensures { image.new ≡ sets image.old to (take count (drop from table.now)) }
 {
-    let mut k: usize = 0;
-    while k < count {
+    for k in 0..count {
         image[to + k] = table[from + k];
-        k += 1;
     }
 }

@@ -11,11 +11,16 @@ const OUT: i32 = 1;
 // The bytes of a buffer for the input, or for a text.
 pub const SPACE: usize = 65_536;
 
-// A place in the text, and whether all that had to be written was written.
-#[derive(Clone, Copy)]
-pub struct Place {
+// A write that did not take all that it was handed.
+#[derive(Clone, Copy, Debug, PartialEq, Eq)]
+pub struct Unwritten;
+
+// A buffer, and the place after the text in it that waits to be handed over.
+#[derive(Drop)]
+pub struct Text<'a> {
+    pub bytes: &'a mut [u8],
     pub at: usize,
-    pub whole: bool,
+    ghost within: { at ≤ length bytes.now },
 }
 
 // A buffer for the input, or for a text.
@@ -33,28 +38,38 @@ pub fn read(fd: i32, input: &mut [u8]) -> usize
     io::read_full(fd, input)
 }
 
-// Hands over the text up to a place; the mark goes on by as many bytes.
-pub fn hand(text: &[u8], at: usize, mark: &mut usize) -> bool
-    requires { at ≤ length text.now }
-    ensures { Tells (take at text.now) mark.old mark.new result }
+// Hands over a text; the mark goes on by as many bytes.
+pub fn hand(text: &[u8], mark: &mut usize) -> Result<(), Unwritten>
+    ensures { Tells text.now mark.old mark.new result }
 {
-    let whole = io::write_all(OUT, &text[..at]);
-    if !whole {
-        return false;
+    if !io::write_all(OUT, text) {
+        return Err(Unwritten);
     }
-    *mark = std::num::wrapping_add_usize(*mark, at);
-    true
+    *mark = mark.wrapping_add(text.len());
+    Ok(())
 }
 
-// A place with room for so many bytes after it: where too few are left, what waits in the text is handed over.
-pub fn room(text: &[u8], at: usize, need: usize, mark: &mut usize) -> Place
-    requires { (at ≤ length text.now) × (need ≤ length text.now) }
-    ensures need_in_bounds { result.at + need ≤ length text.now }
-    ensures roomed { Roomed text.now at mark.old result.at mark.new result.whole }
-{
-    if need <= text.len() - at {
-        return Place { at, whole: true };
+impl Text<'_> {
+    // Hands over what waits.
+    pub fn hand_over(&self, mark: &mut usize) -> Result<(), Unwritten>
+        ensures { Tells (take self.now.at self.now.bytes.now) mark.old mark.new result }
+    {
+        hand(&self.bytes[..self.at], mark)
     }
-    let whole = hand(text, at, mark);
-    Place { at: 0, whole }
+
+    // Makes room for so many bytes more: where too few are left, what waits is handed over.
+    pub fn room(&mut self, need: usize, mark: &mut usize) -> Result<(), Unwritten>
+        requires { need ≤ length self.old.bytes.now }
+        ensures same_text { self.new.bytes.now ≡ self.old.bytes.now }
+        ensures same_reference { self.new.bytes.ghost_name ≡ self.old.bytes.ghost_name }
+        ensures need_in_bounds { self.new.at + need ≤ length self.new.bytes.now }
+        ensures roomed { Roomed self.old.bytes.now self.old.at mark.old self.new.at mark.new result }
+    {
+        if need <= self.bytes.len() - self.at {
+            return Ok(());
+        }
+        let handed = self.hand_over(mark);
+        self.at = 0;
+        handed
+    }
 }

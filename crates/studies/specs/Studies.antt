@@ -1,16 +1,15 @@
 -- 02, R-1, R-6: a study, that is, a question about a table on terms of its own. Assumes nothing.
-use Rattle.std.specs.Prelude.{not, ◌&&◌, List, ℕ, eqb}
+use Rattle.std.specs.Prelude.{not, ◌&&◌, List, ℕ, eqb, Ok}
 use Rattle.ground.specs.Guard.{given}
 use Rattle.ground.specs.Lists.{some}
 use Rattle.part73.specs.Standards.{is_standard, chosen}
-use Rattle.refusals.specs.Faults.{IdAbsent, StandardUnknown}
+use Rattle.refusals.specs.Faults.{Verdict}
+use Rattle.refusals.specs.declared.Fault.TheVariants.{IdAbsent, StandardUnknown}
 use Rattle.spacing.specs.Pair.{Assignment, sited}
 use Rattle.spacing.specs.declared.Place.{Place}
 use Rattle.stations.specs.Image.{faulty, then, stations, judged}
 use Rattle.stations.specs.Lists.{has_id}
 use Rattle.stations.specs.declared.Station.{Station}
-use Rattle.stations.specs.declared.Verdict.{Verdict}
-use Rattle.stations.specs.declared.Verdict.TheVariants.{Sound}
 use Rattle.survey.specs.Ways.{studied}
 use Rattle.marking.specs.declared.Channels.{Channels}
 use Rattle.survey.specs.declared.Terms.{Terms}
@@ -39,7 +38,7 @@ terms_asked w = record { aside = w.aside; standard = w.standard }
 
 -- 26 for a standard not 1 or 2
 unfoldable pub standard_fault : ℕ → Verdict
-standard_fault standard = given (not (is_standard standard)) (faulty StandardUnknown) Sound
+standard_fault standard = given (not (is_standard standard)) (faulty StandardUnknown) (Ok tt)
 
 -- whatever the table: the first that applies of 13 to 16, 26 and 17
 unfoldable pub wanted_fault : Wanted → Verdict
@@ -50,7 +49,7 @@ wanted_fault w =
 
 -- 23 if a nonzero id is absent
 unfoldable pub aside_fault : ℕ → List Station → Verdict
-aside_fault id ss = given (not (eqb id 0) && not (some (has_id id) ss)) (faulty IdAbsent) Sound
+aside_fault id ss = given (not (eqb id 0) && not (some (has_id id) ss)) (faulty IdAbsent) (Ok tt)
 
 -- the first that applies of 13 to 16, 26, 17 and 23
 unfoldable pub study_fault : List Station → Wanted → Verdict

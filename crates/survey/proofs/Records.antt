@@ -7,7 +7,7 @@ use Rattle.spacing.specs.Reaching.{InRange}
 use Rattle.versions.proofs.Versions.{limit_small}
 use Rattle.stations.specs.Image.{station_at, count, Accepted}
 use Rattle.stations.specs.declared.Station.{Station}
-use Rattle.stations.proofs.Table.{whole}
+use Rattle.stations.proofs.Whole.{whole}
 use Rattle.stations.proofs.Fine.{fine_at}
 use Rattle.survey.specs.Ways.{place_of}
 

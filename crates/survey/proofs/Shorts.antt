@@ -7,23 +7,24 @@ use mathlib.Core.Logic.{inl}
 use Prim.Native.Nat.{ℕ, ◌≤◌}
 use Rattle.part73.specs.Channels.{lowest}
 use Rattle.part73.specs.Columns.{gap, none, column}
+use Rattle.part73.specs.Standards.{chosen}
 use Rattle.part73.specs.Separations.{Separations}
 use Rattle.part73.proofs.Chosen.{chosen-table}
 use Rattle.spacing.specs.Pair.{Assignment, sited, short_by}
-use Rattle.spacing.specs.Limits.{Limited}
+use Rattle.spacing.specs.Limits.{Limited, LimitsAt}
 use Rattle.spacing.specs.Reaching.{InRange, hits, Reaches}
+use Rattle.spacing.specs.declared.Limits.{Limits}
 use Rattle.spacing.specs.declared.Place.{Place}
 use Rattle.spacing.specs.declared.Reach.{Reach}
 use Rattle.spacing.proofs.Rule.{for_open, open_high, no_column}
 use Rattle.stations.specs.Image.{station_at}
 use Rattle.stations.specs.declared.Station.{Station}
-use Rattle.survey.specs.Ways.{chosen_for, near}
-use Rattle.survey.specs.Walking.{blocks, Walk}
-use Rattle.survey.specs.declared.Terms.{Terms}
+use Rattle.survey.specs.Ways.{near}
+use Rattle.survey.specs.Walking.{blocks}
 
 -- the limits of a walk are by the chosen table
-pub walk-limited : {s : List ℕ} {t : Terms} {p : Place} {limits : List ℕ} → Walk s t p limits → Limited (chosen_for t) p limits
-walk-limited {t = t} w = record { table = chosen-table t.standard; at = w.held }
+pub walk-limited : (standard : ℕ) {p : Place} {limits : Limits} → LimitsAt (chosen standard) p limits → Limited (chosen standard) p limits
+walk-limited standard held = record { table = chosen-table standard; at = held }
 
 -- what is reached says on which channels
 pub hit_at : {km : ℕ → ℕ → ℕ → ℕ} {p q : Place} {r : Reach} → Reaches km p q r → (m c : ℕ) → lowest ≤ m → hits r (gap m c) ≡ short_by km (sited p m) (sited q c)

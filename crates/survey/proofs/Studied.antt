@@ -1,5 +1,6 @@
 -- The stations that are studied, by their positions in the table: the definitions go over the list, the code over the
 -- positions. For any `look` and any table of separations. Assumes nothing.
+use Rattle.std.specs.Prelude.{Ok}
 use mathlib.Core.Path.{◌≡◌, refl, ap, ◌∙◌}
 use mathlib.Core.Bool.{Bool, true, false, cond, not, ◌&&◌, ◌||◌}
 use mathlib.Core.List.{List, [], map}
@@ -16,8 +17,7 @@ use Rattle.spacing.specs.Pair.{Assignment}
 use Rattle.stations.specs.Image.{station_at, stations, judged}
 use Rattle.stations.specs.Lists.{has_id, without}
 use Rattle.stations.specs.declared.Station.{Station}
-use Rattle.stations.specs.declared.Judged.TheVariants.{Table}
-use Rattle.stations.proofs.Table.{whole}
+use Rattle.stations.proofs.Whole.{whole}
 use Rattle.stations.proofs.Places.{ids_ascend, ascends_at}
 use Rattle.stations.proofs.Fine.{good}
 use Rattle.survey.specs.Ways.{looked, studied, near, clear}
@@ -46,7 +46,7 @@ pub studied-without : (t : Terms) (ss : List Station) → studied t ss ≡ witho
 unfolding studied looked without
 studied-without t ss = refl
 
-module _ (s : List ℕ) (n : ℕ) (e : judged s ≡ Table n) where
+module _ (s : List ℕ) (n : ℕ) (e : judged s ≡ Ok n) where
   pub stations_at : stations s ≡ map (station_at s) (span 0 n)
   unfolding stations
   stations_at = ap (λ (k : ℕ). build k (station_at s)) (whole s n e).counted ∙ build-span n (station_at s)

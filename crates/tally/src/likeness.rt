@@ -1,48 +1,27 @@
 // Whether two answers and two buffers are alike.
-use super::counts::{Notes, mix};
-use super::shown::{long, report, wide};
+ghost use Rattle.std.specs.Prelude.{◌≤◌, length};
+
+use super::counts::Notes;
+use super::shown::report;
 use cases::Question;
 
-// The first place where two buffers differ, their length where there is none; what is alike goes into the digest.
-pub fn alike_bytes(a: &[u8], b: &[u8], notes: &mut Notes) -> usize {
-    let mut i: usize = 0;
-    while i < a.len() {
-        if b.len() <= i {
+// The first place where two buffers differ, the length of the shorter where there is none; what is alike goes into the digest.
+pub fn alike<T: Copy + PartialEq + Into<u64>>(a: &[T], b: &[T], notes: &mut Notes) -> usize
+    ensures { (result ≤ length a.now) × (result ≤ length b.now) }
+{
+    for (i, (x, y)) in a.iter().zip(b).enumerate() {
+        if x != y {
             return i;
         }
-        let byte = a[i];
-        if byte != b[i] {
-            return i;
-        }
-        mix(notes, wide(byte));
-        i += 1;
+        notes.mix((*x).into());
     }
-    i
-}
-
-// The same for rows.
-pub fn alike_rows(a: &[u32], b: &[u32], notes: &mut Notes) -> usize {
-    let mut i: usize = 0;
-    while i < a.len() {
-        if b.len() <= i {
-            return i;
-        }
-        let number = a[i];
-        if number != b[i] {
-            return i;
-        }
-        mix(notes, long(number));
-        i += 1;
-    }
-    i
+    a.len().min(b.len())
 }
 
 // Whether the answers are equal and the buffers alike in every place of the room; reports the question if not.
 pub fn same(q: Question, table: &[u8], room: usize, one: u64, two: u64, at: usize) -> bool {
-    if one == two {
-        if at == room {
-            return true;
-        }
+    if one == two && at == room {
+        return true;
     }
     report(q, table, room, one, two, at);
     false

@@ -1,39 +1,48 @@
-// The input that shows a difference.
+// The input that shows a difference. It is written by the kit's `io`: with `println!` each function that compares would take the
+// runtime and answer a Result, and no test has more to say of a failed write than that the stored output is not there.
 ghost use Rattle.std.specs.Prelude.{◌<◌};
 
-use super::counts::{extra_of, number_of};
 use cases::Question;
 
+// The refusal's number of an answer, 0 where it is granted. An answer is one word, as the library's exports give it.
+pub(crate) fn number_of(answer: u64) -> u64 {
+    answer >> 32
+}
+
+// The low half of an answer.
+pub(crate) fn extra_of(answer: u64) -> u64
+    ensures { result < 4294967296 }
+{
+    answer % 4_294_967_296
+}
+
 // Writes a space and a number.
-fn print_number(value: u64) {
+pub(crate) fn print_number(value: u64) {
     io::write_all(1, b" ");
     io::print_decimal(1, value);
 }
 
-// A number as a wide one.
-pub(crate) fn long(x: u32) -> u64 {
-    x as u64
-}
-
-// Writes a space and each number.
-fn print_numbers(numbers: &[u32]) {
-    let mut i: usize = 0;
-    while i < numbers.len() {
-        print_number(long(numbers[i]));
-        i += 1;
-    }
-}
-
 // Writes a question with its numbers, the coordinates as words.
 fn print_question(q: Question) {
-    let numbers = [
-        q.kind, q.id, q.standard, q.channel, q.last, q.class, q.zone, q.lat, q.lon, q.lat2, q.lon2,
-    ];
     io::write_all(
         1,
         b"difference in question (read 0, distance 1, add 2, withdraw 3, move 4, check 5, arrange 6, reason 7), id, standard, channel, last, class, zone, two sites:",
     );
-    print_numbers(&numbers);
+    print_number(q.kind as u64);
+    for number in [
+        q.id,
+        q.standard,
+        q.channel,
+        q.last,
+        q.class,
+        q.zone,
+        q.site.lat,
+        q.site.lon,
+        q.other.lat,
+        q.other.lon,
+    ] {
+        print_number(u64::from(number));
+    }
 }
 
 // Writes an answer as its number and its value.
@@ -42,19 +51,10 @@ fn print_answer(answer: u64) {
     print_number(extra_of(answer));
 }
 
-// A byte as a wide number.
-pub(crate) fn wide(x: u8) -> u64
-    ensures { result < 256 }
-{
-    x as u64
-}
-
 // Writes bytes in hexadecimal digits.
 fn print_bytes(bytes: &[u8]) {
-    let mut i: usize = 0;
-    while i < bytes.len() {
-        io::print_hex(1, wide(bytes[i]), 2);
-        i += 1;
+    for &byte in bytes {
+        io::print_hex(1, u64::from(byte), 2);
     }
     io::write_all(1, b"\n");
 }

@@ -1,8 +1,7 @@
 -- 01, The programs; 02, R-2, R-6: the text of what is granted, as bytes. Assumes nothing.
-use Rattle.std.specs.Prelude.{List, [], ◌∷◌, ◌++◌, ℕ, ◌/◌, length}
+use Rattle.refusals.specs.Faults.{Answer, refusal}
+use Rattle.std.specs.Prelude.{List, [], ◌∷◌, ◌++◌, ℕ, ◌/◌, length, Ok, Err}
 use Rattle.desk.specs.Answers.{Outcome, grant, deny}
-use Rattle.desk.specs.declared.Answer.{Answer}
-use Rattle.desk.specs.declared.Answer.TheVariants.{Granted, Refused}
 use Rattle.lines.specs.Lines.{ended, row_line, numbers_line, clear_line, short_line, refused_line}
 
 -- a line for each row of three numbers
@@ -28,9 +27,9 @@ image_text vs = vs
 -- the text of all that is granted; of a refusal, its one line
 abbrev pub printed : (List ℕ → List ℕ) → Outcome → List ℕ
 printed text (grant vs) = text vs
-printed text (deny f) = refused_line f
+printed text (deny f) = refused_line (refusal f)
 
 -- D, on a line; or the line of the refusal
 abbrev pub distance_text : Answer → List ℕ
-distance_text (Granted d) = ended d
-distance_text (Refused f) = refused_line f
+distance_text (Ok d) = ended d
+distance_text (Err f) = refused_line (refusal f)

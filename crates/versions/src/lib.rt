@@ -7,6 +7,9 @@ ghost use Rattle.versions.specs.Version.{known, carries, top, limit, version_for
 // The line between the versions.
 const LINE: usize = 2000;
 
+// The flags of a record: bit 0.
+const FLAGS: u8 = 1;
+
 // No list is longer.
 pub const LIMIT: usize = 4000;
 
@@ -15,12 +18,12 @@ pub const HEADER: usize = 8;
 
 pub const RECORD: usize = 16;
 
-// The papers have this version.
+// The papers have this version. It stays a number: `known` and `carries` answer for any that an image may hold.
 #[tactic(auto, unfolding(crate::specs::Version::known))]
 pub fn is_known(version: u16) -> bool
     ensures { result ≡ known version }
 {
-    version == 1 || version == 2
+    matches!(version, 1 | 2)
 }
 
 // It carries so many records.
@@ -28,13 +31,11 @@ pub fn is_known(version: u16) -> bool
 pub fn is_carried(version: u16, n: usize) -> bool
     ensures { result ≡ carries version n }
 {
-    if version == 1 {
-        return n <= LINE;
+    match version {
+        1 => n <= LINE,
+        2 => LINE < n && n <= LIMIT,
+        _ => false,
     }
-    if version == 2 {
-        return LINE < n && n <= LIMIT;
-    }
-    false
 }
 
 // The highest flags of its records.
@@ -42,7 +43,7 @@ pub fn is_carried(version: u16, n: usize) -> bool
 pub fn top_of(version: u16) -> u8
     ensures { result ≡ top version }
 {
-    1
+    FLAGS
 }
 
 // A list of so many records takes no more.

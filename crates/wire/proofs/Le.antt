@@ -4,24 +4,30 @@ use mathlib.Core.Logic.{◌↔◌}
 use mathlib.Core.List.{List}
 use Prim.Native.Nat.{ℕ, zero, suc, ◌+◌, ◌*◌, ◌<◌}
 use native.Mathlib.Nat.{add-zero}
+use native.Mathlib.Numerals.{add-one}
 use native.Mathlib.Omega.{arith}
 use native.Mathlib.Decide.{ℕ_discrete}
 use lib.ListN.{get_or}
 use Rattle.wire.specs.Be.{Bytes, be}
 use Rattle.wire.specs.Le.{le}
 
+pub none_low : (s : List ℕ) (at : ℕ) → 0 ≡ le 0 s at
+unfolding le
+none_low s at = refl
+
+-- a number begins with the byte that counts least
+pub next_low : (k : ℕ) (s : List ℕ) (at : ℕ) → le (k + 1) s at ≡ le k s (at + 1) * 256 + get_or s at 0
+unfolding le
+next_low k s at = rw add-one
+
 module _ (s : List ℕ) where
   byte : (i j : ℕ) → i ≡ j → get_or s i 0 ≡ get_or s j 0
   byte i j e = ap (λ (k : ℕ). get_or s k 0) e
 
-  -- two bytes, and four
+  -- two bytes
   pub two-low : (at : ℕ) → le 2 s at ≡ get_or s (at + 1) 0 * 256 + get_or s at 0
   unfolding le
   two-low at = omega arith
-
-  pub four_low : (at : ℕ) → le 4 s at ≡ le 2 s (at + 2) * 65536 + le 2 s at
-  unfolding le
-  four_low at = omega (arith, byte (at + 1 + 1 + 1) (at + 2 + 1) (omega arith), byte (at + 1 + 1) (at + 2) (omega arith))
 
   pub two-high : (at : ℕ) → be 2 s at ≡ get_or s at 0 * 256 + get_or s (at + 1) 0
   unfolding be

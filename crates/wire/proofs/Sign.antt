@@ -3,8 +3,7 @@
 use mathlib.Core.Path.{◌≡◌, refl, ap}
 use mathlib.Core.Bool.{true, false}
 use mathlib.Core.List.{List, ◌++◌}
-use Prim.Native.Nat.{ℕ, zero, suc, ◌+◌, ◌-◌, ◌^◌, ◌≤◌, ◌<◌}
-use native.Mathlib.Nat.{zero-add}
+use Prim.Native.Nat.{ℕ, suc, ◌+◌, ◌-◌, ◌^◌, ◌≤◌, ◌<◌}
 use native.Mathlib.Omega.{arith}
 use lib.IntN.{ℤ, pos, negsuc, ◌-ℤ◌, nat_abs}
 use lib.Signed.{le_z, non_neg, mag}
@@ -16,11 +15,6 @@ use mir.ValLaws.{to_z-of_z, of_z-to_z, of_z_fits}
 use borrow.Author.Tests.{le-ltb, leb-false}
 use Rattle.wire.specs.Be.{Bytes, be, bytes}
 use Rattle.wire.proofs.Width.{be-bytes, bytes-be, be_lt}
-
--- -1 - n
-pub minus : (n : ℕ) → negsuc 0 -ℤ pos n ≡ negsuc n
-minus zero = refl
-minus (suc n) = rw zero-add
 
 -- a number from 0 up is its own bits
 pub up : (z : ℤ) → SFits w32 z → le_z (pos 0) z ≡ true → T (non_neg z) × Fits w32 (nat_abs z) × (nat_abs z ≡ of_z w32 z)

@@ -1,12 +1,15 @@
 -- Numbers of k bytes: what holds at every width.
 -- Assumes nothing.
-use mathlib.Core.Path.{◌≡◌, refl, ap}
+use Rattle.std.specs.Prelude.{◌≢◌}
+use mathlib.Core.Path.{◌≡◌, refl, ap, ◌∙◌}
 use mathlib.Core.List.{List, [], ◌∷◌, ◌++◌, append_assoc}
 use Prim.Native.Nat.{ℕ, zero, suc, ◌+◌, ◌*◌, ◌/◌, ◌%◌, ◌^◌, ◌≤◌, ◌<◌}
-use native.Mathlib.Nat.{add-suc, add-zero, add_assoc, mul_assoc, mul_comm, pow-succ', div-lt_iff_lt-mul}
+use native.Mathlib.Nat.{add-suc, add-zero, add_assoc, mul_assoc, mul_comm, pow-succ', div-lt_iff_lt-mul, pow-le-pow_right}
+use native.Mathlib.Numerals.{add-one}
 use native.Mathlib.Omega.{arith}
 use lib.ListN.{length, get_or, take, drop, set, length-append, length-drop}
-use lib.Seq.{drop-cons, get_or_at, get_or-drop, take-suc, take-add, drop-drop, append_snoc, length-sets}
+use lib.Seq.{sets, drop-cons, get_or_at, get_or-drop, take-suc, take-add, drop-drop, append_snoc, length-sets}
+use Rattle.std.proofs.lemmas.List.{set_comm}
 use Rattle.ground.proofs.Writes.{sets_append}
 use Rattle.wire.specs.Be.{Bytes, be, bytes, put}
 
@@ -17,21 +20,35 @@ be-add j zero s at = rw add-zero (omega arith)
 be-add j (suc k) s at =
     rw (add-suc, pow-succ', ← mul_assoc, ← add_assoc) (omega (arith, be-add j k s at))
 
--- the same bytes stored one after the other
-abbrev pub puts : ℕ → List ℕ → ℕ → ℕ → List ℕ
-puts zero s at v = s
-puts (suc k) s at v = set (puts k s at (v / 256)) (at + k) (v % 256)
-
 pub length-bytes : (k v : ℕ) → length (bytes k v) ≡ k
 unfolding bytes
 length-bytes zero v = refl
 length-bytes (suc k) v = rw length-append (omega (arith, length-bytes k (v / 256)))
 
-pub puts_put : (k : ℕ) (s : List ℕ) (at v : ℕ) → puts k s at v ≡ put k s at v
-unfolding bytes put
-puts_put zero s at v = refl
-puts_put (suc k) s at v =
-    rw (sets_append (bytes k (v / 256)) (v % 256 ∷ []) s at, length-bytes k (v / 256)) (ap (λ (l : List ℕ). set l (at + k) (v % 256)) (puts_put k s at (v / 256)))
+-- a byte stored behind others, before them
+set_sets : (vs s : List ℕ) (at j b : ℕ) → at + length vs ≤ j → set (sets s at vs) j b ≡ sets (set s j b) at vs
+set_sets [] s at j b h = refl
+set_sets (a ∷ vs) s at j b h =
+    let other : at ≢ j = λ e. absurd (omega arith) in
+    set_sets vs (set s at a) (suc at) j b (omega arith) ∙ ap (λ (l : List ℕ). sets l (suc at) vs) (set_comm s at j a b other)
+
+-- a number put from its last byte on
+pub last_put : (k : ℕ) (s : List ℕ) (at v : ℕ) → put (k + 1) s at v ≡ put k (set s (at + k) (v % 256)) at (v / 256)
+unfolding put bytes
+last_put k s at v =
+    let high : List ℕ = bytes k (v / 256) in
+    rw (add-one, sets_append high (v % 256 ∷ []) s at, length-bytes k (v / 256)) (set_sets high s at (at + k) (v % 256) (omega (arith, length-bytes k (v / 256))))
+
+pub put-none : (s : List ℕ) (at v : ℕ) → put 0 s at v ≡ s
+unfolding put bytes
+put-none s at v = refl
+
+-- one byte more behind a number of at most three
+pub one_more : (k x y : ℕ) → k < 4 → x < 256 ^ k → y < 256 → (x * 256 + y < 256 ^ (k + 1)) × (x * 256 + y < 2 ^ 32)
+one_more k x y s h g =
+    let next : x * 256 + y < 256 ^ (k + 1) = rw (add-one, pow-succ', mul_comm) (omega arith) in
+    let most : 256 ^ (k + 1) ≤ 256 ^ 4 = pow-le-pow_right {n = 256} (omega arith) {i = k + 1} {j = 4} (omega arith) in
+    (next, omega arith)
 
 pub length-put : (k : ℕ) (s : List ℕ) (at v : ℕ) → length (put k s at v) ≡ length s
 unfolding put

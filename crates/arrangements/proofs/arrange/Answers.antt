@@ -1,29 +1,23 @@
-use mathlib.Core.Path.{sym, ◌∙◌}
-use Rattle.stations.specs.Image.{Accepted}
-use Rattle.stations.proofs.Stages.{is_accepted}
-use Rattle.studies.proofs.Ways.{passed, table_left, wanted_left, passed_on}
-use Rattle.arrangements.specs.Arrange.{arranged_for}
+use Rattle.std.proofs.Common.{rules, ◌≡◌, Err}
+use Rattle.refusals.specs.Faults.{Answer}
+use Rattle.desk.proofs.Answers.{denied}
+use Rattle.studies.specs.Studies.{asked}
+use Rattle.arrangements.specs.Arrange.{rows_for, arranged_for}
 use Rattle.arrangements.proofs.arrange.Goals as goal
-use Rattle.arrangements.proofs.arrange.Goals.{In-Table}
 
-pub returns-in_default : goal.returns-in_default
+pub returns-in_err-study : goal.returns-in_err-study
 unfolding arranged_for
-returns-in_default c = rw c.left.ensures (table_left _ _ _ _ _ _ c.judge-j.ensures c.in_default.is)
-
--- the table is accepted
-whole : (c : In-Table) → Accepted c.args.table.now
-whole c = is_accepted _ _ (sym c.judge-j.ensures ∙ c.in-Table.is)
-
-pub fault_of-v-requires : goal.fault_of-v-requires
-fault_of-v-requires c = whole (goal.at.fault_of-v-requires c).In-Table
-
-pub returns-in-Faulty : goal.returns-in-Faulty
-unfolding arranged_for
-returns-in-Faulty c = wanted_left _ _ _ (whole (goal.at.returns-in-Faulty c).In-Table) _ _ (sym c.fault_of-v.ensures ∙ c.in-Faulty.is)
+returns-in_err-study c =
+    let w = c.args.wanted in
+    let e : ◌≡◌ {A = Answer} c.from_residual.result (Err c.in_err-study.field-0.0) = search rules in
+    rw (e, c.in_err-study.ensures.denied (rows_for (asked w) w.first w.last)) (denied _ _)
 
 pub list_asked-requires : goal.list_asked-requires
-list_asked-requires c = rw (c.place_asked-place.ensures, c.channels_asked-channels.ensures) (passed _ _ (whole (goal.at.list_asked-requires c).In-Table) (sym c.fault_of-v.ensures ∙ c.in_default-v.is))
+list_asked-requires c = rw c.channels.ensures c.in_ok-study.ensures.asked
 
 pub returns : goal.returns
 unfolding arranged_for
-returns c = passed_on _ _ _ (whole (goal.at.returns c).In-Table) (sym c.fault_of-v.ensures ∙ c.in_default-v.is) (rw (c.place_asked-place.ensures, c.channels_asked-channels.ensures, c.terms_asked-terms.ensures) at c.list_asked.ensures)
+returns c =
+    let w = c.args.wanted in
+    let s = c.in_ok-study.ensures in
+    rw (s.granted (rows_for (asked w) w.first w.last)) (rw (s.image, s.terms, s.place, c.channels.ensures) at c.list_asked.ensures)

@@ -1,12 +1,16 @@
 use native.Mathlib.Omega.{arith}
+use Rattle.std.specs.Prelude.{◌≡◌, Err}
+use borrow.Author.Rules.{rules}
 use Rattle.asking.specs.Asking.{add_input}
-use Rattle.asking.proofs.Inputs.{cut, whole, rest}
+use Rattle.asking.proofs.Inputs.{cut, whole}
 use Rattle.asking.proofs.asked_add.Goals as goal
 
-pub returns-then-input-lt17 : goal.returns-then-input-lt17
+pub returns-in_err-table : goal.returns-in_err-table
 unfolding add_input
-returns-then-input-lt17 c = cut 17 _ _ _ _ c.if-input-lt17.true c.ends_early.ensures
+returns-in_err-table c =
+    let e : c.from_residual.result ≡ Err c.in_err-table.field-0.0 = search rules in
+    cut 17 _ _ _ _ c.in_err-table.ensures.0 (rw (c.in_err-table.ensures.1) at e)
 
 pub returns : goal.returns
 unfolding add_input
-returns c = whole 17 _ (λ h. omega arith) (rw (rest 17, c.newcomer-new.ensures) at c.add.ensures)
+returns c = whole 17 _ (λ h. omega (arith, c.in_ok-table.ensures.0)) (rw (c.in_ok-table.ensures.1, c.newcomer.ensures) at c.add.ensures)

@@ -1,12 +1,16 @@
 use native.Mathlib.Omega.{arith}
+use Rattle.std.specs.Prelude.{◌≡◌, Err}
+use borrow.Author.Rules.{rules}
 use Rattle.asking.specs.Asking.{check_input}
-use Rattle.asking.proofs.Inputs.{cut, whole, rest}
+use Rattle.asking.proofs.Inputs.{cut, whole}
 use Rattle.asking.proofs.asked_check.Goals as goal
 
-pub returns-then-input-lt12 : goal.returns-then-input-lt12
+pub returns-in_err-table : goal.returns-in_err-table
 unfolding check_input
-returns-then-input-lt12 c = cut 12 _ _ _ _ c.if-input-lt12.true c.ends_early.ensures
+returns-in_err-table c =
+    let e : c.from_residual.result ≡ Err c.in_err-table.field-0.0 = search rules in
+    cut 12 _ _ _ _ c.in_err-table.ensures.0 (rw (c.in_err-table.ensures.1) at e)
 
 pub returns : goal.returns
 unfolding check_input
-returns c = whole 12 _ (λ h. omega arith) (rw (rest 12, c.proposal-proposed.ensures) at c.check.ensures)
+returns c = whole 12 _ (λ h. omega (arith, c.in_ok-table.ensures.0)) (rw (c.in_ok-table.ensures.1, c.proposal.ensures) at c.check.ensures)

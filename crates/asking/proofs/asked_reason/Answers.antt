@@ -1,18 +1,21 @@
-use mathlib.Core.Path.{sym}
+use Rattle.std.specs.Prelude.{◌≡◌, Err, length}
+use borrow.Author.Rules.{rules}
+use mathlib.Core.Path.{ap}
 use native.Mathlib.Omega.{arith}
-use lib.ListN.{length}
 use borrow.Author.Tests.{lt-ltb, le-ltb}
 use Rattle.ground.specs.Guard.{given}
+use Rattle.reasons.specs.Reason.{outcome_of}
 use Rattle.asking.specs.Asking.{past, reason_input}
-use Rattle.asking.proofs.Inputs.{rest}
 use Rattle.asking.proofs.asked_reason.Goals as goal
 
-pub returns-then-input : goal.returns-then-input
+pub returns-in_err-table : goal.returns-in_err-table
 unfolding reason_input past given
-returns-then-input c = sym (rw (lt-ltb _ _ c.if-input.true))
+returns-in_err-table c =
+    let e : c.from_residual.result ≡ Err c.in_err-table.field-0.0 = search rules in
+    rw (lt-ltb _ _ c.in_err-table.ensures.0) (rw (c.in_err-table.ensures.1) at (ap outcome_of e))
 
 pub returns : goal.returns
 unfolding reason_input past given
-returns c = let h = c.args.input.now in
-    rw (le-ltb (length h) 17 (omega (arith, c.if-input.false)))
-    (rw (rest 17 h, c.proposal-proposed.ensures, c.terms_at-terms.ensures) at c.answer.ensures)
+returns c =
+    rw (le-ltb (length c.args.input.now) 17 c.in_ok-table.ensures.0)
+    (rw (c.in_ok-table.ensures.1, c.proposal.ensures, c.terms_at-terms.ensures) at c.answer.ensures)

@@ -1,12 +1,16 @@
 use native.Mathlib.Omega.{arith}
+use Rattle.std.specs.Prelude.{◌≡◌, Err}
+use borrow.Author.Rules.{rules}
 use Rattle.asking.specs.Asking.{withdraw_input}
-use Rattle.asking.proofs.Inputs.{cut, whole, rest}
+use Rattle.asking.proofs.Inputs.{cut, whole}
 use Rattle.asking.proofs.asked_withdraw.Goals as goal
 
-pub returns-then-input-lt5 : goal.returns-then-input-lt5
+pub returns-in_err-table : goal.returns-in_err-table
 unfolding withdraw_input
-returns-then-input-lt5 c = cut 5 _ _ _ _ c.if-input-lt5.true c.ends_early.ensures
+returns-in_err-table c =
+    let e : c.from_residual.result ≡ Err c.in_err-table.field-0.0 = search rules in
+    cut 5 _ _ _ _ c.in_err-table.ensures.0 (rw (c.in_err-table.ensures.1) at e)
 
 pub returns : goal.returns
 unfolding withdraw_input
-returns c = whole 5 _ (λ h. omega arith) (rw (rest 5, c.get32-id.ensures) at c.withdraw.ensures)
+returns c = whole 5 _ (λ h. omega (arith, c.in_ok-table.ensures.0)) (rw (c.in_ok-table.ensures.1, c.get.ensures) at c.withdraw.ensures)

@@ -1,60 +1,38 @@
-use mathlib.Core.Path.{◌≡◌, sym, ap, ◌∙◌}
-use mathlib.Core.Bool.{false}
+use mathlib.Core.Path.{sym, ◌∙◌}
 use native.Mathlib.Omega.{arith}
-use lib.Dec.{leb}
-use lib.ListN.{length}
-use Rattle.ground.specs.Lists.{some}
+use borrow.Author.Tests.{leb-false}
 use Rattle.versions.specs.Version.{limit}
-use Rattle.stations.specs.Image.{stations, judged}
-use Rattle.stations.specs.Lists.{has_id}
-use Rattle.stations.specs.declared.Judged.TheVariants.{Table}
-use Rattle.stations.proofs.Table.{whole, length-stations}
 use Rattle.desk.proofs.Answers.{denied}
-use Rattle.finding.specs.Conflicts.{conflicts}
-use Rattle.changes.proofs.There.{count_small, place_small, first_at}
-use Rattle.changes.proofs.Ways.{found, found_none, zero_id, present-id, short_one, full_table, entered_at}
+use Rattle.changes.proofs.There.{is_absent, is_none, count_small, full_is, one_within, within}
+use Rattle.changes.proofs.Ways.{zero_id, present-id, short_one, full_table, entered_at}
 use Rattle.changes.proofs.enter.Goals as goal
-use Rattle.changes.proofs.enter.Goals.{After-count_of-n, After-is_full, Else-is_there}
 
--- a table of n records
-told : (c : After-count_of-n) → judged c.args.table.now ≡ Table c.count_of-n.result
-told c = c.requires.accepted ∙ ap Table (sym c.count_of-n.ensures)
+pub returns-then-r-eq0 : goal.returns-then-r-eq0
+returns-then-r-eq0 c = rw (zero_id _ c.args.r c.if-r-eq0.true) (denied _ _)
 
-long : (c : After-count_of-n) → length (stations c.args.table.now) ≡ c.count_of-n.result
-long c = length-stations (whole _ _ (told c))
+pub overflow_cast-result : goal.overflow_cast-result
+overflow_cast-result c = omega (arith, within _ c.args.table.now.accepted _ _ (sym c.find.ensures ∙ c.in-Ok.is), count_small _ c.args.table.now.accepted)
 
-new : (c : Else-is_there) → some (has_id c.args.r.id) (stations c.args.table.now) ≡ false
-new c = sym c.is_there.ensures ∙ c.if-is_there.false
+pub returns-in-Ok : goal.returns-in-Ok
+returns-in-Ok c = rw (present-id _ c.args.r c.if-r-eq0.false _ (sym c.find.ensures ∙ c.in-Ok.is)) (denied _ _)
 
-clear : (c : After-is_full) → some (conflicts c.args.r) (stations c.args.table.now) ≡ false
-clear c = found_none (conflicts c.args.r) _ _ _ c.first_conflict-q.ensures (length-stations (whole _ _ (c.requires.accepted ∙ ap Table (sym c.count_of-n.ensures)))) (omega arith)
+pub overflow_cast-result-in-Some : goal.overflow_cast-result-in-Some
+overflow_cast-result-in-Some c = omega (arith, one_within _ c.args.table.now.accepted _ _ (sym c.first_conflict.ensures ∙ c.in-Some.is), count_small _ c.args.table.now.accepted)
 
-full : (c : After-is_full) → leb limit (length (stations c.args.table.now)) ≡ c.is_full.result
-full c = rw (length-stations (whole _ _ (c.requires.accepted ∙ ap Table (sym c.count_of-n.ensures)))) (sym c.is_full.ensures)
-
-pub returns-then-id-eq0 : goal.returns-then-id-eq0
-returns-then-id-eq0 c = rw (zero_id _ c.args.r c.if-id-eq0.true, c.refused.ensures) (denied _ _)
-
-pub count_of-n-requires : goal.count_of-n-requires
-count_of-n-requires c = omega (arith, (whole _ _ c.requires.accepted).long)
-
-pub overflow_cast-p : goal.overflow_cast-p
-overflow_cast-p c = omega (arith, place_small _ _ (told (goal.at.overflow_cast-p c).After-count_of-n) _ _ c.place_of-p.ensures)
-
-pub returns-then-is_there : goal.returns-then-is_there
-returns-then-is_there c = let h = sym c.is_there.ensures ∙ c.if-is_there.true in
-    rw (present-id _ c.args.r c.if-id-eq0.false _ (first_at _ _ (told (goal.at.returns-then-is_there c).After-count_of-n) _ _ c.place_of-p.ensures h) h, c.refused_with.ensures) (denied _ _)
-
-pub overflow_cast-q : goal.overflow_cast-q
-overflow_cast-q c = omega (arith, count_small _ _ (told (goal.at.overflow_cast-q c).After-count_of-n))
-
-pub returns-then-q-n : goal.returns-then-q-n
-returns-then-q-n c = let r = c.args.r in
-    let h = found (conflicts r) _ _ _ c.first_conflict-q.ensures (long (goal.at.returns-then-q-n c).After-count_of-n) c.if-q-n.true in
-    rw (short_one _ r c.if-id-eq0.false (new (goal.at.returns-then-q-n c).Else-is_there) _ c.first_conflict-q.ensures h, c.refused_with-then-q-n.ensures) (denied _ _)
+pub returns-in-Some : goal.returns-in-Some
+returns-in-Some c = rw (short_one _ _ c.if-r-eq0.false (is_absent _ _ _ (sym c.find.ensures ∙ c.in-Err.is)).0 _ (sym c.first_conflict.ensures ∙ c.in-Some.is)) (denied _ _)
 
 pub returns-then-is_full : goal.returns-then-is_full
-returns-then-is_full c = rw (full_table _ c.args.r c.if-id-eq0.false (new (goal.at.returns-then-is_full c).Else-is_there) (clear (goal.at.returns-then-is_full c).After-is_full) (full (goal.at.returns-then-is_full c).After-is_full ∙ c.if-is_full.true), c.refused-then-is_full.ensures) (denied _ _)
+returns-then-is_full c =
+    let full = full_is _ c.args.table.now.accepted _ _ c.count.ensures c.is_full.ensures ∙ c.if-is_full.true in
+    rw (full_table _ _ c.if-r-eq0.false (is_absent _ _ _ (sym c.find.ensures ∙ c.in-Err.is)).0 (is_none _ _ (sym c.first_conflict.ensures ∙ c.in_default.is)) full) (denied _ _)
+
+pub grant_add-requires : goal.grant_add-requires
+grant_add-requires c =
+    let new = is_absent _ _ _ (sym c.find.ensures ∙ c.in-Err.is) in
+    record { place = sym new.1; new = new.0; room = omega (arith, c.count.ensures, leb-false limit c.count.result (sym c.is_full.ensures ∙ c.if-is_full.false)) }
 
 pub returns : goal.returns
-returns c = rw (entered_at _ c.args.r c.if-id-eq0.false (new (goal.at.returns c).Else-is_there) (clear (goal.at.returns c).After-is_full) (full (goal.at.returns c).After-is_full ∙ c.if-is_full.false)) c.grant_add.ensures
+returns c =
+    let room = full_is _ c.args.table.now.accepted _ _ c.count.ensures c.is_full.ensures ∙ c.if-is_full.false in
+    rw (entered_at _ _ c.if-r-eq0.false (is_absent _ _ _ (sym c.find.ensures ∙ c.in-Err.is)).0 (is_none _ _ (sym c.first_conflict.ensures ∙ c.in_default.is)) room) c.grant_add.ensures

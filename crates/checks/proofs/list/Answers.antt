@@ -1,41 +1,42 @@
-use mathlib.Core.Path.{◌≡◌, refl, sym, ap, ◌∙◌}
+use mathlib.Core.Path.{◌≡◌, sym, ap, ◌∙◌}
 use mathlib.Core.List.{List}
 use Prim.Native.Nat.{◌*◌}
 use native.Mathlib.Omega.{arith}
 use lib.ListN.{length}
+use Rattle.std.proofs.Common.{rules, Err}
 use Rattle.ground.specs.Rows.{Row, flat}
 use Rattle.spacing.specs.Pair.{sited}
 use Rattle.versions.specs.Version.{limit}
-use Rattle.versions.proofs.Versions.{limit_small}
 use Rattle.stations.specs.Image.{station_at, stations}
 use Rattle.survey.specs.Ways.{studied, chosen_for}
-use Rattle.desk.proofs.Answers.{does_not_fit, written}
+use Rattle.desk.proofs.Answers.{no_room, enough, written}
 use Rattle.checks.specs.Check.{row_of, rows_for}
-use Rattle.nearby.proofs.Noted.{noted_few, noted_at}
-use Rattle.checks.proofs.Listing.{rows_noted, length_rows}
+use Rattle.checks.proofs.Listing.{length_rows, noted_within, rows_noted}
 use Rattle.checks.proofs.list.Goals as goal
-use Rattle.checks.proofs.list.Goals.{After-note_short-k}
+use Rattle.checks.proofs.list.Goals.{After-len}
 
-need : (c : After-note_short-k) → length (rows_for (sited c.args.place c.args.channel) (chosen_for c.args.terms) (studied c.args.terms (stations c.args.table.now))) ≡ 3 * c.note_short-k.result
-need c = let w = c.note_short-k.ensures in
-    ap (λ (rs : List Row). length (flat rs)) (sym (rows_noted _ c.requires.accepted c.args.terms (sited c.args.place c.args.channel) w))
-    ∙ length_rows (λ j. row_of (chosen_for c.args.terms) (sited c.args.place c.args.channel) (station_at c.args.table.now j)) _ c.note_short-k.result (omega (arith, w.long, noted_few w))
+-- three numbers for each noted position
+need : (c : After-len) → let s = c.args.study.now in 3 * c.len.result ≡ length (rows_for (sited s.place c.args.channel) (chosen_for s.terms) (studied s.terms (stations s.table.image.now)))
+need c = let s = c.args.study.now in let p = sited s.place c.args.channel in
+    let e = ap (λ (rs : List Row). length (flat rs)) (rows_noted s.table.image.now s.terms p c.short_positions-positions.ensures s.table.accepted) in
+    omega (arith, e, c.len.ensures.value, length_rows (λ j. row_of (chosen_for s.terms) p (station_at s.table.image.now j)) c.short_positions-positions.result.items)
 
-pub note_short-k-requires : goal.note_short-k-requires
+pub returns-in_err-room_fault : goal.returns-in_err-room_fault
+returns-in_err-room_fault c =
+    let e : c.from_residual.result ≡ Err c.in_err-room_fault.field-0.0 = search rules in
+    rw e (no_room _ c.args.rows.now _ (need (goal.at.returns-in_err-room_fault c).After-len) (sym c.room_fault.ensures ∙ c.in_err-room_fault.was))
+
+pub put_noted-requires-clause-few : goal.put_noted-requires-clause-few
 unfolding limit
-note_short-k-requires c = record { accepted = c.requires.accepted; asked = c.requires.asked; placed = c.requires.placed; long = refl }
+put_noted-requires-clause-few c = c.as_slice.ensures.fits
 
-pub returns-then-rows-need : goal.returns-then-rows-need
-returns-then-rows-need c = rw c.refused_with.ensures (does_not_fit _ _ _ (sym (need (goal.at.returns-then-rows-need c).After-note_short-k)) (omega (arith, c.if-rows-need.true)))
-
-pub put_noted-written-requires : goal.put_noted-written-requires
-put_noted-written-requires c = let w = c.note_short-k.ensures in
-    noted_at _ c.requires.accepted _ _ w c.args.place c.requires.placed
-
-pub overflow_cast-count : goal.overflow_cast-count
-overflow_cast-count c = let w = rw (rows_noted _ c.requires.accepted c.args.terms (sited c.args.place c.args.channel) c.note_short-k.ensures) at c.put_noted-written.ensures in
-    omega (arith, w.next, need (goal.at.overflow_cast-count c).After-note_short-k, noted_few c.note_short-k.ensures, limit_small)
+pub put_noted-requires-clause-within : goal.put_noted-requires-clause-within
+put_noted-requires-clause-within c = let s = c.args.study.now in
+    noted_within s.table.image.now s.terms (sited s.place c.args.channel) (c.as_slice.ensures.value ∙ c.short_positions-positions.ensures)
 
 pub returns : goal.returns
-returns c = let w = rw (rows_noted _ c.requires.accepted c.args.terms (sited c.args.place c.args.channel) c.note_short-k.ensures) at c.put_noted-written.ensures in
-    written _ _ _ _ w (omega (arith, need (goal.at.returns c).After-note_short-k, c.if-rows-need.false))
+returns c = let s = c.args.study.now in let p = sited s.place c.args.channel in
+    let e = c.as_slice.ensures.value ∙ c.short_positions-positions.ensures in
+    let w = rw (rows_noted s.table.image.now s.terms p e s.table.accepted) at c.put_noted.ensures in
+    let n = need (goal.at.returns c).After-len in
+    written _ _ _ _ (record { next = omega (arith, n); stored = w }) (omega (arith, n, enough _ _ (sym c.room_fault.ensures ∙ c.in_ok-room_fault.was)))

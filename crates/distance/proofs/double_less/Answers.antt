@@ -28,9 +28,6 @@ module _ (c : After-scaled) where
   less : SFits w64 (pos 2 *ℤ c.scaled.result -ℤ c.args.c)
   less = fit64 _ (omega (arith, s-size, abs_mul (pos 2) c.scaled.result, abs_sub (pos 2 *ℤ c.scaled.result) c.args.c))
 
-pub overflow_sub-result : goal.overflow_sub-result
-overflow_sub-result c = simp (to_z-of_z (s-fits c), to_z-of_z c.ranges.c, to_z-of_z (twice c)) (less c)
-
 pub returns : goal.returns
 returns c =
     simp (to_z-of_z (s-fits c), to_z-of_z c.ranges.c, to_z-of_z (twice c), to_z-of_z (less c))

@@ -1,6 +1,6 @@
 use Rattle.lines.specs.Lines.{clear_line}
 use Rattle.lines.proofs.put_clear.Goals as goal
 
-pub returns-clause-wrote : goal.returns-clause-wrote
+pub returns-clause-puts : goal.returns-clause-puts
 unfolding clear_line
-returns-clause-wrote c = c.put_word.ensures
+returns-clause-puts c = c.put_word.ensures

@@ -2,6 +2,6 @@ use Rattle.lines.specs.Lines.{short_line}
 use Rattle.lines.proofs.Texts.{both}
 use Rattle.lines.proofs.put_heading.Goals as goal
 
-pub returns-clause-wrote : goal.returns-clause-wrote
+pub returns-clause-puts : goal.returns-clause-puts
 unfolding short_line
-returns-clause-wrote c = both c.put_word-next.ensures c.put_number.ensures.wrote
+returns-clause-puts c = both c.put_word.ensures c.put_number.ensures.puts

@@ -1,5 +1,5 @@
 use mathlib.Core.Path.{◌≡◌}
-use Prim.Native.Nat.{◌+◌, ◌-◌, ◌*◌, ◌≤◌}
+use Prim.Native.Nat.{◌+◌, ◌*◌, ◌/◌, ◌≤◌}
 use lib.ListN.{length}
 use Rattle.ground.specs.Lists.{span, each}
 use Rattle.ground.proofs.Writes.{Walking}
@@ -7,8 +7,9 @@ use Rattle.lines.specs.Lines.{line_at}
 use Rattle.lines.proofs.put_lines.Given as goal
 
 abbrev pub invariant-loop-i : goal.invariant-loop-i
-invariant-loop-i l = (l.from ≤ l.i) × (l.i ≤ l.to) × (length l.text ≡ length l.initial.text) × (l.next ≤ l.at + 33 * (l.i - l.from))
-    × Walking (line_at l.rows) l.to l.i l.next l.text (each (line_at l.rows) (span l.from (l.to - l.from))) l.at l.initial.text
-
-abbrev pub decreases-loop-i : goal.decreases-loop-i
-decreases-loop-i l = l.to - l.i
+invariant-loop-i l = record {
+  length_kept : length l.text.bytes.now ≡ length l.initial.text.bytes.now;
+  same_reference : l.text.bytes.ghost_name ≡ l.initial.text.bytes.ghost_name;
+  within : l.text.at ≤ l.initial.text.at + 33 * l.i;
+  walking : Walking (line_at l.rows) (length l.rows / 3) l.i l.text.at l.text.bytes.now (each (line_at l.rows) (span 0 (length l.rows / 3))) l.initial.text.at l.initial.text.bytes.now;
+}

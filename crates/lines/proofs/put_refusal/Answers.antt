@@ -1,7 +1,14 @@
+use native.Mathlib.Omega.{arith}
 use Rattle.lines.specs.Lines.{refused_line}
-use Rattle.lines.proofs.Texts.{both}
+use Rattle.lines.proofs.Texts.{both, kept}
 use Rattle.lines.proofs.put_refusal.Goals as goal
 
-pub returns-clause-wrote : goal.returns-clause-wrote
+pub put_number-requires-2 : goal.put_number-requires-2
+put_number-requires-2 c =
+    let first = kept c.put_word.ensures in
+    let second = kept c.put_number.ensures.puts in
+    omega (arith, c.put_word.ensures.wrote.next)
+
+pub returns-clause-puts : goal.returns-clause-puts
 unfolding refused_line
-returns-clause-wrote c = both c.put_word-number.ensures (both c.put_number-extra.ensures.wrote c.put_number.ensures.wrote)
+returns-clause-puts c = both c.put_word.ensures (both c.put_number.ensures.puts c.put_number-2.ensures.puts)

@@ -1,11 +1,12 @@
-use Prim.Native.Nat.{◌+◌, ◌-◌, ◌≤◌}
-use Rattle.part73.specs.Channels.{lowest, highest}
+use mathlib.Core.Path.{◌≡◌}
+use Prim.Native.Nat.{◌+◌}
+use Rattle.part73.specs.Channels.{highest}
 use Rattle.listing.specs.Listing.{move_at, move_rows}
 use Rattle.ground.proofs.Writes.{Walking}
 use Rattle.listing.proofs.list_moves.Given as goal
 
 abbrev pub invariant-loop-m : goal.invariant-loop-m
-invariant-loop-m l = (lowest ≤ l.m) × (l.m ≤ highest + 1) × Walking (move_at l.row l.id l.c) (highest + 1) l.m l.to l.rows (move_rows l.row l.id l.c) l.at l.initial.rows
-
-abbrev pub decreases-loop-m : goal.decreases-loop-m
-decreases-loop-m l = highest + 1 - l.m
+invariant-loop-m l = record {
+  same_reference : l.rows.buffer.ghost_name ≡ l.initial.rows.buffer.ghost_name;
+  walking : Walking (move_at l.row l.id l.c) (highest + 1) l.m l.rows.at l.rows.buffer.now (move_rows l.row l.id l.c) l.initial.rows.at l.initial.rows.buffer.now;
+}

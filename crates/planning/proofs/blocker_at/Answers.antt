@@ -1,47 +1,40 @@
-use mathlib.Core.Path.{◌≡◌, refl, ap, ◌∙◌}
-use Prim.Native.Nat.{ℕ, ◌-◌, ◌<◌}
+use mathlib.Core.Path.{◌≡◌, ap, ◌∙◌}
 use native.Mathlib.Omega.{arith}
 use Rattle.part73.proofs.Chosen.{chosen-table}
 use Rattle.spacing.specs.Reaching.{InRange}
-use Rattle.spacing.specs.declared.Place.{Place}
 use Rattle.spacing.proofs.Meaning.{reaches_either}
-use Rattle.stations.specs.declared.Station.{Station}
+use Rattle.stations.specs.Image.{station_at}
 use Rattle.survey.specs.Ways.{place_of}
-use Rattle.survey.proofs.Records.{known_at, room_at}
-use Rattle.planning.specs.Planning.{Single}
+use Rattle.survey.proofs.Records.{few, known_at}
 use Rattle.planning.proofs.blocker_at.Goals as goal
+use Rattle.planning.proofs.blocker_at.Goals.{After-place_of}
 
-inside : {n mark : ℕ} → Single n mark → mark - 1 < n
-inside s = omega (arith, s.some, s.within)
+-- the place is that of the record
+theirs : (c : After-place_of) → c.place_of.result ≡ place_of (station_at c.args.study.now.table.image.now c.args.i)
+theirs c = c.place_of.ensures ∙ ap place_of c.station_at-r.ensures
 
-theirs : {r x : Station} {q : Place} → q ≡ place_of r → r ≡ x → q ≡ place_of x
-theirs p e = p ∙ ap place_of e
+placed : (c : After-place_of) → InRange c.place_of.result
+placed c = rw (theirs c) (known_at _ c.args.study.now.table.accepted _ c.requires.within).placed
 
-pub station_at-r-requires : goal.station_at-r-requires
-station_at-r-requires c = room_at _ c.requires.accepted _ (inside c.requires.single)
+pub overflow_cast-mark : goal.overflow_cast-mark
+overflow_cast-mark c = omega (arith, few _ c.args.study.now.table.accepted, c.requires.within)
 
-pub limits_by-limits-requires : goal.limits_by-limits-requires
-limits_by-limits-requires c = (c.requires.squared, rw (theirs c.place_of-theirs.ensures c.station_at-r.ensures) (known_at _ c.requires.accepted _ (inside c.requires.single)).placed)
+pub overflow_add-mark : goal.overflow_add-mark
+overflow_add-mark c = omega (arith, few _ c.args.study.now.table.accepted, c.requires.within)
 
-pub survey-requires : goal.survey-requires
-survey-requires c =
-    let h : InRange c.place_of-theirs.result = rw (theirs c.place_of-theirs.ensures c.station_at-r.ensures) (known_at _ c.requires.accepted _ (inside c.requires.single)).placed in
+pub invariant_of-theirs : goal.invariant_of-theirs
+invariant_of-theirs c = record { placed = placed (goal.at.invariant_of-theirs c).After-place_of }
+
+pub returns-2 : goal.returns-2
+returns-2 c =
+    let s = c.args.study.now in
+    let e = theirs (goal.at.returns-2 c).After-place_of in
+    let w = c.by-walk.ensures in
+    let table = chosen-table s.terms.standard in
+    let m = rw (w.table, w.terms, w.place, e) at c.survey.ensures in
+    let held = rw (w.terms, w.place) at c.by-walk.result.held in
+    let reached = c.reach_of.ensures _ (record { table = table; at = held }) in
     record {
-      walk = record { accepted = c.requires.accepted; placed = h; held = c.limits_by-limits.ensures };
-      asked = record { low = omega arith; some = omega arith; high = omega arith };
-      long = c.requires.known.held.long;
-    }
-
-pub reach_of-reach-requires : goal.reach_of-reach-requires
-reach_of-reach-requires c = (rw (theirs c.place_of-theirs.ensures c.station_at-r.ensures) (known_at _ c.requires.accepted _ (inside c.requires.single)).placed, c.requires.placed)
-
-pub returns : goal.returns
-returns c =
-    let e = theirs c.place_of-theirs.ensures c.station_at-r.ensures in
-    let m = rw e at c.survey.ensures in
-    let table = chosen-table c.args.terms.standard in
-    let reached = c.reach_of-reach.ensures _ (record { table = table; at = c.limits_by-limits.ensures }) in
-    record {
-      met = record { mark = refl; own = λ h. rw c.station_at-r.ensures; reach = λ h. reaches_either table (rw e at reached) };
-      held = record { long = m.long; of = λ h. m };
+      met = record { mark = omega arith; own = rw c.station_at-r.ensures; reach = reaches_either table (rw e at reached) };
+      held = m;
     }

@@ -1,65 +1,58 @@
-use mathlib.Core.Path.{◌≡◌, refl, sym, subst, ◌∙◌}
+use mathlib.Core.Path.{◌≡◌, subst, ◌∙◌}
 use mathlib.Core.Bool.{Bool}
 use mathlib.Core.List.{List}
-use Prim.Native.Nat.{ℕ, ◌+◌, ◌≤◌}
+use Prim.Native.Nat.{ℕ, ◌+◌, ◌-◌, ◌≤◌, ◌<◌}
 use native.Mathlib.Omega.{arith}
 use lib.ListN.{length}
-use borrow.Rule.Slice.PartMut.{mid_len}
-use Rattle.part73.specs.Channels.{lowest, channel_count}
-use Rattle.spacing.specs.declared.Place.{Place}
+use Rattle.std.specs.Prelude.{Option}
+use Rattle.part73.specs.Channels.{lowest}
 use Rattle.stations.specs.Image.{count}
-use Rattle.marking.specs.Marks.{seen}
-use Rattle.survey.specs.declared.Terms.{Terms}
-use Rattle.planning.specs.Scene.{scene, scene_of}
-use Rattle.planning.specs.Flags.{start, Right}
-use Rattle.planning.specs.Planning.{Known}
+use Rattle.survey.specs.declared.walk.Study.{Study}
+use Rattle.marking.specs.Marks.{mark_of, seen}
+use Rattle.planning.specs.Scene.{scene}
+use Rattle.planning.specs.Flags.{Right}
+use Rattle.planning.specs.Planning.{scene_in, Known, Held}
 use Rattle.planning.specs.declared.Blocker.{Blocker}
 use Rattle.planning.proofs.Rowing.{Turned, turned, unturned}
-use Rattle.planning.proofs.Going.{moves_yes, marks_one, right_kept, right-down, plan_turn}
+use Rattle.planning.proofs.Going.{marks_one, right_kept, right-down, plan_turn}
 use Rattle.planning.proofs.plan.Invariants.{Turns}
 use Rattle.planning.proofs.plan.Goals as goal
-use Rattle.planning.proofs.plan.Goals.{then-may_move, else-may_move}
+use Rattle.planning.proofs.plan.Goals.{In-loop-c, in-Some, in_default}
 
 -- what is known of a station, under its own mark
-itself : {s : List ℕ} {t : Terms} {p : Place} {v : ℕ} {b : Blocker} {kept : List ℕ} → Known s t p v b kept → Known s t p b.mark b kept
-itself {s} {t} {p} {v} {b} {kept} m = subst (λ x. Known s t p x b kept) (sym m.met.mark) m
+itself : {s : Study} {i : ℕ} {b : Blocker} {kept : List ℕ} → Known s i b kept → Known s (b.mark - 1) b kept
+itself {s} {i} {b} {kept} k =
+    let e : i ≡ b.mark - 1 = omega (arith, k.met.mark) in
+    subst (λ (x : ℕ). Known s x b kept) e k
 
 -- one more
-next : {s : List ℕ} {t : Terms} {p : Place} {first last : ℕ} {moves₀ moves row moves' : List Bool} {kept kept' : List ℕ} {blocker blocker' : Blocker} {c v : ℕ} → Turns s t p first last moves₀ moves kept blocker c → c ≤ last → Turned first c row moves moves'
-    → Known s t p blocker'.mark blocker' kept' → v ≡ seen ((scene_of s t p).new c) (count s) → Right (scene_of s t p) c v row → Turns s t p first last moves₀ moves' kept' blocker' (c + 1)
+next : {s : Study} {first : ℕ} {moves₀ moves moves' : List (List Bool)} {row : List Bool} {kept kept' : List ℕ} {blocker blocker' : Option Blocker} {c v : ℕ} → Turns s first moves₀ moves kept blocker c → first ≤ c → Turned first c row moves moves'
+    → Held s blocker' kept' → v ≡ seen ((scene_in s).new c) (count s.table.image.now) → Right (scene_in s) c v row → Turns s first moves₀ moves' kept' blocker' (c + 1)
 unfolding scene
-next i h u k e r = record { low = omega (arith, i.low); high = omega arith; long = u.long ∙ i.long; known = k; planned = plan_turn i.low i.planned u e r }
+next i low u k e r = record { long = u.long ∙ i.long; held = k; planned = plan_turn low i.planned u e r }
 
-pub may_move-requires : goal.may_move-requires
-may_move-requires c =
-    let e = c.requires.marked.at c.loop-c.c c.loop-c.invariant.low c.loop-c-test.true in
-    record { accepted = c.requires.accepted; known = marks_one _ c.args.terms c.args.place c.loop-c.c e }
+-- the mark of the new channel
+mark : (c : In-loop-c) → mark_of c.args.marks.now c.loop-c.c ≡ seen ((scene_in c.args.study.now).new c.loop-c.c) (count c.args.study.now.table.image.now)
+mark c = c.requires.marked.at c.loop-c.c (omega arith) (omega arith)
 
-pub blocker_at-blocker-requires : goal.blocker_at-blocker-requires
-blocker_at-blocker-requires c =
-    let e = c.requires.marked.at c.loop-c.c c.loop-c.invariant.low c.loop-c-test.true in
-    let k = marks_one _ c.args.terms c.args.place c.loop-c.c e in
-    record {
-      accepted = c.requires.accepted;
-      placed = c.requires.placed;
-      squared = c.requires.squared;
-      single = (moves_yes _ _ k (sym c.may_move.ensures ∙ c.if-may_move.true)).0;
-      known = c.loop-c.invariant.known;
-    }
+pub mover-requires : goal.mover-requires
+mover-requires c = let s = c.args.study.now in
+    marks_one _ s.terms s.place c.loop-c.c (mark (goal.at.mover-requires c).In-loop-c)
 
 pub loop-c-preserved : goal.loop-c-preserved
 loop-c-preserved c =
     let i = c.loop-c.invariant in
-    let on = c.loop-c-test.true in
-    let e = c.requires.marked.at c.loop-c.c i.low on in
-    elim c.if-may_move.branch [
-      | then-may_move w ↦
-          let within : start c.args.channels.first c.loop-c.c + channel_count ≤ length c.loop-c.moves = omega (arith, i.low, i.long, on, c.requires.room) in
-          let f : length w.fill_row.new.row ≡ channel_count = w.fill_row.auto.row ∙ (mid_len _ _ c.loop-c.moves within ∙ omega arith) in
-          let low : lowest ≤ c.loop-c.c = omega (arith, c.requires.asked.low, i.low) in
-          let b = w.blocker_at-blocker.ensures in
+    let s = c.args.study.now in
+    let first : c.args.channels.first ≤ c.loop-c.c = omega arith in
+    let e = mark (goal.at.loop-c-preserved c).In-loop-c in
+    elim c.match-mover.branch [
+      | in-Some w ↦
+          let within : c.loop-c.c - c.args.channels.first < length c.loop-c.moves = omega (arith, i.long, c.requires.room) in
+          let low : lowest ≤ c.loop-c.c = omega (arith, c.requires.asked.low) in
+          let b = w.blocker_at-one.ensures in
+          let m = w.in-Some.ensures in
           rw (w.moves-is, w.kept-is, w.blocker-is)
-          (next i on (turned _ _ _ i.low refl within f) (itself b) e (right_kept _ _ _ _ e c.requires.accepted low (sym c.may_move.ensures ∙ w.if-may_move.true) b.held b.met w.fill_row.ensures))
-      | else-may_move w ↦ rw (w.moves-is, w.kept-is, w.blocker-is)
-          (next i on (unturned _) i.known e (right-down _ _ _ _ e (sym c.may_move.ensures ∙ w.if-may_move.false) (i.planned.down.at _ (omega arith))))
+          (next i first (turned _ _ first within) (itself b) e (right_kept _ _ _ _ e s.table.accepted low m.0 m.1 b.held b.met w.fill_row.ensures))
+      | in_default w ↦ rw (w.moves-is, w.kept-is, w.blocker-is)
+          (next i first (unturned _) i.held e (right-down _ _ _ _ e w.in_default.ensures (i.planned.down.at _ (omega arith))))
     ]

@@ -1,15 +1,16 @@
 use mathlib.Core.Path.{◌≡◌, sym, ap}
-use mathlib.Core.Bool.{Bool}
+use Rattle.std.specs.Prelude.{Result}
 use mathlib.Core.List.{List}
 use Prim.Native.Nat.{ℕ}
 use Rattle.streams.specs.Tells.{Tells}
+use Rattle.streams.specs.declared.Unwritten.{Unwritten}
 use Rattle.streams.proofs.Pieces.{tells_as}
 use Rattle.programs.specs.Printed.{printed_by}
 use Rattle.programs.specs.declared.Program.{Program}
 use Rattle.programs.proofs.tell.Goals as goal
 
 -- the program that was named
-by : {p q : Program} (input : List ℕ) {a b : ℕ} {r : Bool} → p ≡ q → Tells (printed_by q input) a b r → Tells (printed_by p input) a b r
+by : {p q : Program} (input : List ℕ) {a b : ℕ} {r : Result (Unit {0}) Unwritten} → p ≡ q → Tells (printed_by q input) a b r → Tells (printed_by p input) a b r
 by input e t = tells_as (sym (ap (λ (x : Program). printed_by x input) e)) t
 
 pub returns-in-Check : goal.returns-in-Check

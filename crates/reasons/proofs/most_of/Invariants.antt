@@ -1,13 +1,11 @@
 use mathlib.Core.Path.{◌≡◌}
-use Prim.Native.Nat.{◌-◌, ◌≤◌}
-use lib.ListN.{take, drop}
+use lib.ListN.{take}
+use Rattle.std.specs.List.{reduce}
 use Rattle.part73.specs.Standards.{chosen}
 use Rattle.spacing.specs.Pair.{sited}
-use Rattle.reasons.specs.Inside.{nobody, neighbours_at, kept}
+use Rattle.neighbours.specs.Inside.{worse_of}
+use Rattle.reasons.specs.Inside.{neighbours_at}
 use Rattle.reasons.proofs.most_of.Given as goal
 
-abbrev pub invariant-loop-t : goal.invariant-loop-t
-invariant-loop-t l = (l.t ≤ l.k) × (kept l.most (neighbours_at (chosen l.standard) l.table (sited l.place l.channel) (drop l.t (take l.k l.hits))) ≡ kept nobody (neighbours_at (chosen l.standard) l.table (sited l.place l.channel) (take l.k l.hits)))
-
-abbrev pub decreases-loop-t : goal.decreases-loop-t
-decreases-loop-t l = l.k - l.t
+abbrev pub invariant-loop-i : goal.invariant-loop-i
+invariant-loop-i l = let s = l.study in l.most ≡ reduce worse_of (neighbours_at (chosen s.terms.standard) s.table.image.now (sited s.place l.channel) (take l.i-index l.positions))

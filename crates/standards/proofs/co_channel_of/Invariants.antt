@@ -1,10 +1,6 @@
-use Prim.Native.Nat.{◌-◌}
-use Rattle.ground.proofs.Filling.{Filled}
+use Rattle.std.proofs.Common.{◌≡◌, ◌<◌, ℕ, get_or, length}
 use Rattle.part73.specs.Standards.{chosen}
 use Rattle.standards.proofs.co_channel_of.Given as goal
 
 abbrev pub invariant-loop-b : goal.invariant-loop-b
-invariant-loop-b l = Filled (λ j. chosen l.standard l.class j 0) l.out 8 l.b
-
-abbrev pub decreases-loop-b : goal.decreases-loop-b
-decreases-loop-b l = 8 - l.b
+invariant-loop-b l = record { long : length l.out ≡ 8; at : (j : ℕ) → j < l.b → get_or l.out j 0 ≡ chosen l.standard l.class j 0 }

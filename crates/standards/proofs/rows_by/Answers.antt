@@ -12,5 +12,5 @@ pub returns-then-standard-eq-BY_LESSER : goal.returns-then-standard-eq-BY_LESSER
 unfolding build rows_of relations relation table_a lesser_relations lesser
 returns-then-standard-eq-BY_LESSER c = rw (chosen-lesser _ (eq-eqb _ by_lesser c.if-standard-eq-BY_LESSER.true))
 
-pub returns : goal.returns
-returns c = rw (chosen-a _ (ne_eqb _ by_lesser c.if-standard-eq-BY_LESSER.false)) c.table_rows.ensures
+pub returns-else-standard-eq-BY_LESSER : goal.returns-else-standard-eq-BY_LESSER
+returns-else-standard-eq-BY_LESSER c = rw (chosen-a _ (ne_eqb _ by_lesser c.if-standard-eq-BY_LESSER.false)) c.table_rows.ensures

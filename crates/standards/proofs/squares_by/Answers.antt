@@ -12,5 +12,5 @@ pub returns-then-standard-eq-BY_LESSER : goal.returns-then-standard-eq-BY_LESSER
 unfolding build relations relation table_a lesser_relations lesser limit_of squared_limits
 returns-then-standard-eq-BY_LESSER c = rw (chosen-lesser _ (eq-eqb _ by_lesser c.if-standard-eq-BY_LESSER.true))
 
-pub returns : goal.returns
-returns c = rw (chosen-a _ (ne_eqb _ by_lesser c.if-standard-eq-BY_LESSER.false)) c.by_table_a.ensures
+pub returns-else-standard-eq-BY_LESSER : goal.returns-else-standard-eq-BY_LESSER
+returns-else-standard-eq-BY_LESSER c = rw (chosen-a _ (ne_eqb _ by_lesser c.if-standard-eq-BY_LESSER.false)) c.by_table_a.ensures

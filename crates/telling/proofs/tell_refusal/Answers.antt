@@ -1,9 +1,11 @@
-use native.Mathlib.Omega.{arith}
+use mathlib.Core.Path.{◌≡◌, ap, ◌∙◌}
+use Rattle.refusals.specs.Faults.{refusal}
+use Rattle.lines.specs.Lines.{refused_line}
 use Rattle.streams.proofs.Pieces.{tells_as}
 use Rattle.telling.proofs.Waiting.{waiting}
 use Rattle.telling.proofs.tell_refusal.Goals as goal
 
 pub returns : goal.returns
 returns c =
-    let w = c.put_refusal-end.ensures in
-    tells_as (waiting (omega (arith, w.upper_bound)) w.wrote) c.hand.ensures
+    let told : c.from.result ≡ refusal c.args.fault = cc in
+    tells_as (waiting c.put_refusal.ensures.puts ∙ ap refused_line told) c.hand_over.ensures

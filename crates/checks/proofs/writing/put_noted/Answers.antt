@@ -1,26 +1,38 @@
-use mathlib.Core.List.{List}
+use mathlib.Core.Path.{refl, ◌∙◌}
 use Prim.Native.Nat.{ℕ}
 use native.Mathlib.Omega.{arith}
-use Rattle.ground.specs.Rows.{Row}
-use Rattle.ground.proofs.Writes.{walk_start, walk_turn, walk_end}
+use lib.ListN.{take}
+use lib.Seq.{length-take-le}
+use Rattle.ground.specs.Rows.{Row, flat}
+use Rattle.ground.proofs.Writes.{wrote_none}
 use Rattle.part73.specs.Standards.{chosen}
 use Rattle.part73.proofs.Chosen.{chosen-table}
-use Rattle.spacing.specs.Pair.{Assignment, sited}
+use Rattle.spacing.specs.Pair.{sited}
+use Rattle.versions.proofs.Versions.{limit_small}
 use Rattle.stations.specs.Image.{station_at}
 use Rattle.checks.specs.Check.{row_of}
-use Rattle.checks.proofs.Listing.{rows_are, length_rows}
+use Rattle.checks.proofs.Listing.{length_rows, rows_more}
 use Rattle.checks.proofs.writing.put_noted.Goals as goal
+use Rattle.checks.proofs.writing.put_noted.Goals.{Start}
 
 -- the row of a position
-abbrev row_at : ℕ → List ℕ → Assignment → ℕ → Row
-row_at standard s p j = row_of (chosen standard) p (station_at s j)
+abbrev row_at : Start → ℕ → Row
+row_at s j = let study = s.args.study.now in row_of (chosen study.terms.standard) (sited study.place s.args.channel) (station_at study.table.image.now j)
 
-pub loop-t-init : goal.loop-t-init
-loop-t-init c = (omega arith, omega arith, walk_start _ _ _ _ _ _ (rows_are (row_at c.args.standard c.args.table.now (sited c.args.place c.args.channel)) _ _ (omega (arith, c.requires.few, c.requires.long))))
+pub loop-i-init : goal.loop-i-init
+unfolding flat
+loop-i-init c = record { wrote = wrote_none _ _; same_reference = refl }
 
-pub loop-t-preserved : goal.loop-t-preserved
-loop-t-preserved c = let w = walk_turn (omega (arith, c.loop-t-test.true)) c.loop-t.invariant.2 (c.put_station-at.ensures _ (record { table = chosen-table _; are = c.rows_by-separations.ensures })) in
-    (omega (arith, c.loop-t-test.true), omega (arith, w.places, length_rows (row_at c.args.standard c.args.table.now (sited c.args.place c.args.channel)) c.args.hits.now c.args.k (omega (arith, c.requires.few, c.requires.long))), w)
+pub put-requires : goal.put-requires
+put-requires c = let t = c.loop-i.i-index in let vs = c.args.positions.now in
+    omega (arith, c.loop-i.invariant.wrote.next, c.new-rows.ensures.start, length_rows (row_at (goal.at.put-requires c).Start) (take t vs), length-take-le t vs (omega (arith, c.loop-i-test.true)), c.loop-i-test.true, c.requires.few, limit_small)
 
-pub returns : goal.returns
-returns c = walk_end (omega arith) c.loop-t.invariant.2
+pub loop-i-preserved : goal.loop-i-preserved
+unfolding flat row_of
+loop-i-preserved c =
+    let l = c.loop-i.invariant in
+    let w = rw (c.neighbour_at-n.ensures _ (record { table = chosen-table _; are = c.rows_by-separations.ensures })) at c.put.ensures.wrote in
+    record {
+      wrote = rows_more (row_at (goal.at.loop-i-preserved c).Start) c.args.positions.now c.loop-i.i-index c.loop-i-test.true l.wrote w;
+      same_reference = c.put.ensures.same_reference ∙ l.same_reference;
+    }

@@ -7,7 +7,7 @@ use lib.ListN.{length}
 use Rattle.wire.specs.Be.{be}
 use Rattle.versions.proofs.Versions.{limit_small}
 use Rattle.stations.specs.Scanning.{Ahead, Passed}
-use Rattle.stations.proofs.Table.{whole_headed}
+use Rattle.stations.proofs.Whole.{whole_headed}
 use Rattle.stations.proofs.Scanning.{ahead_next, more_passed}
 use Rattle.stations.proofs.judging.four_are_sound.Goals as goal
 use Rattle.stations.proofs.judging.four_are_sound.Goals.{After-one_is_sound-2, After-one_is_sound-3}
@@ -30,14 +30,14 @@ more t top at last p k to a b e q n r =
     let f : to / 16 ≡ at / 16 + k = omega (arith, e, p.placed) in
     more_passed _ _ _ k b f (rw n at q) r
 
-pub get32-first-requires : goal.get32-first-requires
-get32-first-requires c = omega (arith, room _ _ _ _ c.requires)
+pub get-first-requires : goal.get-first-requires
+get-first-requires c = omega (arith, room _ _ _ _ c.requires)
 
 pub overflow_add-at : goal.overflow_add-at
 overflow_add-at c = omega (arith, small _ _ _ _ c.requires)
 
 pub one_is_sound-requires-2 : goal.one_is_sound-requires-2
-one_is_sound-requires-2 c = ahead _ _ _ _ c.requires 0 _ _ _ (omega arith) (omega arith) (omega arith) c.get32-first.ensures
+one_is_sound-requires-2 c = ahead _ _ _ _ c.requires 0 _ _ _ (omega arith) (omega arith) (omega arith) c.get-first.ensures
 
 -- two of them
 two : (c : After-one_is_sound-2) → Passed c.args.table.now (c.args.at / 16) 2 c.one_is_sound-2.result
@@ -46,14 +46,14 @@ two c = more _ _ _ _ c.requires 1 _ _ _ (omega arith) c.one_is_sound.ensures c.i
 pub overflow_add-at-2 : goal.overflow_add-at-2
 overflow_add-at-2 c = omega (arith, small _ _ _ _ c.requires)
 
-pub get32-second-requires : goal.get32-second-requires
-get32-second-requires c = omega (arith, room _ _ _ _ c.requires)
+pub get-second-requires : goal.get-second-requires
+get-second-requires c = omega (arith, room _ _ _ _ c.requires)
 
 pub overflow_add-at-3 : goal.overflow_add-at-3
 overflow_add-at-3 c = omega (arith, small _ _ _ _ c.requires)
 
 pub one_is_sound-requires-3 : goal.one_is_sound-requires-3
-one_is_sound-requires-3 c = ahead _ _ _ _ c.requires 1 _ _ _ (omega arith) (omega arith) (omega arith) c.get32-second.ensures
+one_is_sound-requires-3 c = ahead _ _ _ _ c.requires 1 _ _ _ (omega arith) (omega arith) (omega arith) c.get-second.ensures
 
 -- three of them
 three : (c : After-one_is_sound-3) → Passed c.args.table.now (c.args.at / 16) 2 c.one_is_sound-2.result → Passed c.args.table.now (c.args.at / 16) 3 c.one_is_sound-3.result
@@ -62,14 +62,14 @@ three c p = more _ _ _ _ c.requires 2 _ _ _ (omega arith) p c.if-not-one_is_soun
 pub overflow_add-at-4 : goal.overflow_add-at-4
 overflow_add-at-4 c = omega (arith, small _ _ _ _ c.requires)
 
-pub get32-third-requires : goal.get32-third-requires
-get32-third-requires c = omega (arith, room _ _ _ _ c.requires)
+pub get-third-requires : goal.get-third-requires
+get-third-requires c = omega (arith, room _ _ _ _ c.requires)
 
 pub overflow_add-at-5 : goal.overflow_add-at-5
 overflow_add-at-5 c = omega (arith, small _ _ _ _ c.requires)
 
 pub one_is_sound-requires-4 : goal.one_is_sound-requires-4
-one_is_sound-requires-4 c = ahead _ _ _ _ c.requires 2 _ _ _ (omega arith) (omega arith) (omega arith) c.get32-third.ensures
+one_is_sound-requires-4 c = ahead _ _ _ _ c.requires 2 _ _ _ (omega arith) (omega arith) (omega arith) c.get-third.ensures
 
 pub returns : goal.returns
 returns c = more _ _ _ _ c.requires 3 _ _ _ (omega arith) (three (goal.at.returns c).After-one_is_sound-3 (two (goal.at.returns c).After-one_is_sound-2)) c.if-not-one_is_sound-3.false c.one_is_sound-4.ensures

@@ -7,7 +7,7 @@ use Rattle.repeats.specs.Repeats.{FirstRepeat}
 use Rattle.repeats.specs.Records.{agrees}
 use Rattle.versions.proofs.Versions.{limit_small}
 use Rattle.stations.specs.Image.{count, repeat_of}
-use Rattle.stations.proofs.Table.{Whole, whole_headed}
+use Rattle.stations.proofs.Whole.{Whole, whole_headed}
 use Rattle.stations.proofs.Repeats.{twins-bytes, repeat_is, repeat_found, repeat_none}
 use Rattle.stations.proofs.judging.repeat_of.Goals as goal
 use Rattle.stations.proofs.judging.repeat_of.Goals.{After-count_of-n, After-first_repeat-i}
@@ -34,11 +34,11 @@ count_of-n-requires c = omega (arith, (whole_headed _ c.requires).long)
 pub first_repeat-i-requires : goal.first_repeat-i-requires
 first_repeat-i-requires c = let w = whole (goal.at.first_repeat-i-requires c).After-count_of-n in record { room = omega (arith, c.count_of-n.ensures, w.long); few = omega (arith, c.count_of-n.ensures, w.few) }
 
-pub overflow_cast-position : goal.overflow_cast-position
-overflow_cast-position c = let w = whole (goal.at.overflow_cast-position c).After-count_of-n in omega (arith, c.count_of-n.ensures, w.few, limit_small, c.if-i-n.true)
+pub overflow_cast-result : goal.overflow_cast-result
+overflow_cast-result c = let w = whole (goal.at.overflow_cast-result c).After-count_of-n in omega (arith, c.count_of-n.ensures, w.few, limit_small, c.if-i-n.true)
 
 pub returns-then-i-n : goal.returns-then-i-n
-returns-then-i-n c = c.faulty.ensures ∙ repeat_found _ _ (found (goal.at.returns-then-i-n c).After-first_repeat-i) (omega (arith, c.count_of-n.ensures, c.if-i-n.true))
+returns-then-i-n c = repeat_found _ _ (found (goal.at.returns-then-i-n c).After-first_repeat-i) (omega (arith, c.count_of-n.ensures, c.if-i-n.true))
 
 pub returns : goal.returns
 returns c = repeat_none _ _ (found (goal.at.returns c).After-first_repeat-i) (omega (arith, c.count_of-n.ensures, c.if-i-n.false))

@@ -1,44 +1,59 @@
 use mathlib.Core.Path.{◌≡◌, refl, ◌∙◌, ap}
-use Prim.Native.Nat.{◌+◌, ◌/◌, ◌≤◌, ◌<◌}
+use Prim.Native.Nat.{◌+◌, ◌*◌, ◌/◌, ◌≤◌, ◌<◌}
 use native.Mathlib.Omega.{arith}
 use Rattle.versions.proofs.Versions.{limit_small}
 use Rattle.stations.specs.Image.{count}
 use Rattle.stations.specs.Scanning.{scanned_from}
-use Rattle.stations.proofs.Table.{Whole, whole_headed}
+use Rattle.stations.proofs.Whole.{Whole, whole_headed}
 use Rattle.stations.proofs.Scanning.{ahead_next, sound-start}
 use Rattle.stations.proofs.judging.sound_to.Goals as goal
-use Rattle.stations.proofs.judging.sound_to.Goals.{At-loop-at, In-loop-at}
+use Rattle.stations.proofs.judging.sound_to.Goals.{Start, After-count_of-turns, In-loop-turn}
 
-table : (c : At-loop-at) → let s = c.args.table.now in Whole s (count s)
-table c = whole_headed _ c.loop-at.invariant.0.topped.headed
+table : (c : Start) → let s = c.args.table.now in Whole s (count s)
+table c = whole_headed _ c.requires.headed
 
 -- four records are left
-inside : (c : In-loop-at) → c.loop-at.at / 16 + 4 ≤ count c.args.table.now
-inside c = omega (arith, (whole_headed _ c.loop-at.invariant.0.topped.headed).long, c.loop-at.invariant.0.placed, c.loop-at-test.true)
+inside : (c : In-loop-turn) → 4 * c.loop-turn.turn + 4 ≤ count c.args.table.now
+inside c = omega (arith, c.loop-turn-test.true, c.count_of-turns.ensures)
 
--- the places of four records more are numbers
-small : (c : At-loop-at) → c.loop-at.at + 64 < 65536
-small c = let a = c.loop-at.invariant.0 in omega (arith, (table c).few, a.placed, a.within, limit_small)
+-- places are small numbers
+small : (c : In-loop-turn) → 64 * c.loop-turn.turn + 72 < 65536
+small c = omega (arith, inside c, (whole_headed _ c.requires.headed).few, limit_small)
 
-pub loop-at-init : goal.loop-at-init
-loop-at-init c = (record { topped = c.requires; placed = refl; within = omega arith; before = refl }, sound-start _)
+few : (c : After-count_of-turns) → c.count_of-turns.result < 4096
+few c = omega (arith, c.count_of-turns.ensures, (whole_headed _ c.requires.headed).few, limit_small)
+
+pub count_of-turns-requires : goal.count_of-turns-requires
+count_of-turns-requires c = omega (arith, (table (goal.at.count_of-turns-requires c).Start).long)
+
+pub loop-turn-init : goal.loop-turn-init
+loop-turn-init c = (record { topped = c.requires; placed = refl; within = omega arith; before = refl }, sound-start _)
+
+pub overflow_mul-at : goal.overflow_mul-at
+overflow_mul-at c = omega (arith, small (goal.at.overflow_mul-at c).In-loop-turn)
 
 pub overflow_add-at : goal.overflow_add-at
-overflow_add-at c = omega (arith, small (goal.at.overflow_add-at c).At-loop-at)
+overflow_add-at c = omega (arith, small (goal.at.overflow_add-at c).In-loop-turn)
 
-pub four_are_sound-requires : goal.four_are_sound-requires
-four_are_sound-requires c = let a = c.loop-at.invariant.0 in
-    record { topped = a.topped; placed = a.placed; within = inside (goal.at.four_are_sound-requires c).In-loop-at; before = a.before }
+pub overflow_add-at-in-loop-turn : goal.overflow_add-at-in-loop-turn
+overflow_add-at-in-loop-turn c = omega (arith, small (goal.at.overflow_add-at-in-loop-turn c).In-loop-turn)
 
-pub loop-at-smaller : goal.loop-at-smaller
-loop-at-smaller c = omega (arith, c.loop-at.invariant.0.placed, inside (goal.at.loop-at-smaller c).In-loop-at)
+pub get-last-requires : goal.get-last-requires
+get-last-requires c = omega (arith, inside (goal.at.get-last-requires c).In-loop-turn, (table (goal.at.get-last-requires c).Start).long)
 
-pub loop-at-preserved : goal.loop-at-preserved
-loop-at-preserved c = let l = c.loop-at in
+pub loop-turn-preserved : goal.loop-turn-preserved
+loop-turn-preserved c = let l = c.loop-turn in
     let a = l.invariant.0 in
-    let at = l.at in
-    let i = inside (goal.at.loop-at-preserved c).In-loop-at in
-    let k : at / 16 + 4 ≡ (at + 64) / 16 = omega arith in (
-      ahead_next _ _ 0 (at + 48) (at + 64) _ a.topped (omega (arith, a.placed)) (omega (arith, a.placed, i)) (omega arith) c.get32-last.ensures,
-      l.invariant.1 ∙ c.four_are_sound.ensures.sound c.if-not-four_are_sound.false ∙ ap (scanned_from _) k,
+    let at = 8 + 64 * l.turn in
+    let i = inside (goal.at.loop-turn-preserved c).In-loop-turn in
+    let j : at / 16 ≡ 4 * l.turn = omega arith in
+    let k : 4 * l.turn + 4 ≡ 4 * (l.turn + 1) = omega arith in (
+      ahead_next _ _ 0 (at + 48) (8 + 64 * (l.turn + 1)) _ a.topped (omega arith) (omega (arith, i)) (omega arith) c.get-last.ensures,
+      l.invariant.1 ∙ (rw j at (c.four_are_sound.ensures.sound c.if-not-four_are_sound.false)) ∙ ap (scanned_from _) k,
     )
+
+pub overflow_mul-result : goal.overflow_mul-result
+overflow_mul-result c = omega (arith, few (goal.at.overflow_mul-result c).After-count_of-turns)
+
+pub overflow_add-result : goal.overflow_add-result
+overflow_add-result c = omega (arith, few (goal.at.overflow_add-result c).After-count_of-turns)

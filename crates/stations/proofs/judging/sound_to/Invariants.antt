@@ -1,11 +1,8 @@
 use mathlib.Core.Path.{◌≡◌}
-use Prim.Native.Nat.{◌+◌, ◌-◌, ◌*◌, ◌/◌}
-use Rattle.stations.specs.Image.{count, scanned}
+use Prim.Native.Nat.{◌+◌, ◌*◌, ◌/◌}
+use Rattle.stations.specs.Image.{scanned}
 use Rattle.stations.specs.Scanning.{scanned_from, Ahead}
 use Rattle.stations.proofs.judging.sound_to.Given as goal
 
-abbrev pub invariant-loop-at : goal.invariant-loop-at
-invariant-loop-at l = Ahead l.table l.top 0 l.at l.last × (scanned l.table ≡ scanned_from l.table (l.at / 16))
-
-abbrev pub decreases-loop-at : goal.decreases-loop-at
-decreases-loop-at l = 8 + 16 * count l.table - l.at
+abbrev pub invariant-loop-turn : goal.invariant-loop-turn
+invariant-loop-turn l = Ahead l.table l.top 0 (8 + 64 * l.turn) l.last × (scanned l.table ≡ scanned_from l.table (4 * l.turn))

@@ -21,4 +21,4 @@ pub loop-k-preserved : goal.loop-k-preserved
 loop-k-preserved c =
     let at = c.loop-k in
     let e = turn c.args.table.now at.image c.args.from c.args.to c.args.count at.k c.requires.source c.loop-k-test.true in
-    (omega arith, simp length-set at.invariant.1, sym e ∙ at.invariant.2)
+    (simp length-set at.invariant.0, sym e ∙ at.invariant.1)

@@ -1,7 +1,0 @@
-use Rattle.lines.specs.Lines.{row_line, numbers_line}
-use Rattle.lines.proofs.Texts.{both}
-use Rattle.lines.proofs.put_reason.Goals as goal
-
-pub returns-clause-wrote : goal.returns-clause-wrote
-unfolding row_line numbers_line
-returns-clause-wrote c = both c.put_number-second.ensures.wrote (both c.put_number-rest.ensures.wrote c.put_numbers.ensures.wrote)

@@ -1,5 +1,0 @@
-use Rattle.streams.proofs.Pieces.{piece}
-use Rattle.streams.proofs.room.Goals as goal
-
-pub returns-clause-roomed : goal.returns-clause-roomed
-returns-clause-roomed c = record { kept = λ e text left before t. piece t c.hand-whole.ensures e; failed = c.hand-whole.ensures.failed }

@@ -1,8 +1,0 @@
-use native.Mathlib.Omega.{arith}
-use native.Mathlib.Nat.{add-zero}
-use Rattle.wire.specs.Be.{be}
-use Rattle.wire.proofs.get16.Goals as goal
-
-pub returns : goal.returns
-unfolding be
-returns c = rw add-zero (omega arith)
