@@ -1,7 +1,8 @@
 #!/bin/sh
 # c.sh: compiles examples/ask.c, as C and as C++, against include/fms.h and target/staticlib/libfms.a, holds what it prints
-# against examples/ask.out, and asks it about as many stations as fms.h has room for, all of them short, and about one that is
-# entered twice. Skips with a line where a compiler, an x86-64 machine or the archive is not to be had.
+# against examples/ask.out, asks it about as many stations as fms.h has room for, all of them short, and about one that is
+# entered twice, and sees that the archive asks for no function but memcpy and memset. Skips with a line where a compiler, an
+# x86-64 machine or the archive is not to be had.
 set -u
 root=$(cd "$(dirname "$0")/.." && pwd -P)
 archive=$root/target/staticlib/libfms.a
@@ -105,6 +106,18 @@ if command -v "$cxx" >/dev/null 2>&1; then
     try C++ "$cxx" -Wall -Wextra -Werror -x c++
 else
     printf 'c: as C++ skipped, there is no C++ compiler (%s)\n' "$cxx"
+fi
+# What the archive asks of whoever links it.
+if command -v nm >/dev/null 2>&1; then
+    asked=$(nm -u "$archive" | sed -n 's/^ *U //p' | sort -u | grep -vxE 'memcpy|memset' | tr '\n' ' ')
+    if [ -z "$asked" ]; then
+        passed=$((passed + 1))
+    else
+        printf 'FAILED: libfms.a asks for other functions than memcpy and memset: %s\n' "$asked"
+        failed=$((failed + 1))
+    fi
+else
+    printf 'c: what the archive asks for skipped, there is no nm\n'
 fi
 printf 'c: %s passed, %s failed\n' "$passed" "$failed"
 [ "$failed" -eq 0 ]

@@ -18,7 +18,6 @@ count() { # PATTERN
 }
 
 outside=$(code subjects asking lines telling programs fm_check fm_arrange fm_change fm_study fm_reason)
-telling=$(code telling programs)
 writing='write_all|libc::write|io::(write|print)|print(ln)?!' reading='read_full|libc::read|io::read' other='libc::|os::|std::(io|fs|net|os)|HostRuntime|extern'
 [ "$(printf '%s' "$outside" | count "$writing|$reading|$other")" -eq 0 ] || wrong 'bytes are read or written outside of streams'
 [ "$(code streams | count "$writing")" -eq 1 ] || wrong 'streams writes at more than one place'
@@ -28,13 +27,21 @@ writing='write_all|libc::write|io::(write|print)|print(ln)?!' reading='read_full
 [ "$(grep -rE 'unfoldable +pub +use' crates/streams/specs crates/streams/proofs | wc -l)" -eq 0 ] || wrong 'streams passes the words of seal on to be opened'
 [ "$(printf '%s' "$outside" | count 'streams::read\(')" -eq 1 ] || wrong 'a program reads at more than one place'
 
-# A mark is a parameter, named in a promise, or the last argument of a call; it is made once, in run, and lent there.
-rest=$(printf '%s' "$telling" | sed 's/^ *mark: &mut usize,$//; s/mark: &mut usize) -> Result<(), Unwritten>//; s/mark\.old mark\.new//; s/, mark)//g; s/hand_over(mark)//g')
+# A mark is the last parameter of a function, named in its promise, and the last argument where such a function is called; hand moves
+# it on; run makes it and lends it, once.
+[ "$(grep -E ':.* streams( |$)' crates.txt | sed 's/:.*//' | xargs)" = 'telling programs' ] || wrong 'a crate besides telling and programs stands on streams'
+marked=$(code streams telling programs | tr -s ' \n' '  ' | sed 's/( /(/g; s/, )/)/g')
+[ "$(printf '%s' "$marked" | count '\<use [^;]* as ')" -eq 0 ] || wrong 'something is used under another name'
+takers=$(printf '%s' "$marked" | grep -oE 'fn [a-z_]+\(([^()]*, )?mark: &mut usize\)' | sed 's/^fn //; s/(.*//' | paste -sd '|' -)
+rest=$(printf '%s' "$marked" | sed -E "s/\<use [^;]*;//g; s/fn [a-z_]+\(([^()]*, )?mark: &mut usize\)//g; s/mark\.(old|new)//g; s/\<($takers)\((([^()]|\([^()]*\))*, )?mark\)//g")
+[ "$(printf '%s' "$rest" | count '\*mark = mark\.wrapping_add\(text\.len\(\)\);')" -eq 1 ] || wrong 'a mark is moved on at more than one place'
 [ "$(printf '%s' "$rest" | count 'let mut mark: usize = 0;')" -eq 1 ] || wrong 'marks are made at more than one place'
 [ "$(printf '%s' "$rest" | count '&mut mark\)')" -eq 1 ] || wrong 'a mark is lent at more than one place'
-[ "$(printf '%s' "$rest" | count '\<mark\>')" -eq 2 ] || wrong 'a mark is used in another way than passed on'
-# What hands bytes over is given the mark of its caller.
-[ "$(printf '%s' "$telling" | count '\<(hand|hand_over|room)\(')" -eq "$(printf '%s' "$telling" | count '\<(hand|hand_over|room)\(([^()]*, )?mark\)')" ] || wrong 'bytes are handed over at another mark'
+[ "$(printf '%s' "$rest" | count '\<mark\>')" -eq 4 ] || wrong 'a mark is used in another way than passed on'
+calls=$(printf '%s' "$marked" | sed -E "s/\<use [^;]*;//g; s/fn [a-z_]+\(([^()]*, )?mark: &mut usize\)//g")
+[ "$(printf '%s' "$calls" | count "\\<($takers)\\(")" -eq $(($(printf '%s' "$calls" | count '[(,] ?mark\)') + 1)) ] || wrong 'one call takes the mark of another'
+# What takes a mark is given that of its caller; run alone, which has none, gives its own.
+[ "$(printf '%s' "$rest" | count "[^.]\\<($takers)\\>|\\.($takers)\\(")" -eq 1 ] || wrong 'bytes are handed over at another mark'
 
 [ "$bad" -eq 0 ] && printf 'marks: ok\n'
 exit "$bad"

@@ -24,7 +24,7 @@ use Rattle.planning.specs.Flags.{row_of, Rowed, Right, Planned}
 use Rattle.planning.proofs.Single.{First}
 use Rattle.planning.proofs.Tallies.{Tally, nobody, lone, several, tally}
 use Rattle.listing.specs.Listing.{id_at, move_rows, mark_rows, all_rows}
-use Rattle.listing.proofs.Marking.{rows_free, rows_many, rows_lone}
+use Rattle.listing.proofs.Marking.{rows_free, rows_many, rows_lone_at}
 use Rattle.arrangements.specs.Placed.{moves_of, moves, arranged, arrangements}
 use Rattle.arrangements.specs.Arrange.{rows_for}
 use Rattle.arrangements.proofs.Movers.{Clear, clear_is, no_moves, moves_of_lem}
@@ -66,7 +66,7 @@ module _ (t : Scene) (c : ℕ) where
   by_mark v flags few (nobody f) right = sym (rows_free t.id flags c 0 refl) ∙ free-numbers f
   by_mark v flags few (lone a l f g) right =
       let e : suc a - 1 ≡ a = omega arith in
-      sym (rows_lone t.id flags c (suc a) a refl (omega arith))
+      sym (rows_lone_at t.id flags c (suc a) a refl (omega arith))
       ∙ move-numbers a f l flags (rw e at (right (omega arith, omega arith)))
   by_mark v flags few (several a b l f g h) right = sym (rows_many t.id flags c many refl) ∙ two-numbers a f l b g h
 

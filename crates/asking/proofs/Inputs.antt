@@ -40,6 +40,10 @@ pub passed : (o : Outcome) {o' : Outcome} {entry exit : List ℕ} {r : Answer} (
 unfolding given
 passed o b e a = rw e a
 
+-- the bytes from the table on
+pub rest : (k : ℕ) (input : List ℕ) → take (length input - k) (drop k input) ≡ drop k input
+rest k input = take_all (length input - k) (drop k input) (simp length-drop (omega arith))
+
 -- no letter in an empty input
 nothing : (input : List ℕ) → length input ≡ 0 → be 1 input 0 ≡ 0
 unfolding be

@@ -1,4 +1,6 @@
 // One question put to both implementations: answers and whole buffers compared, counted and mixed into the digest.
+ghost use Rattle.std.specs.Prelude.{◌≤◌};
+
 use crate::implementation::{First, Implementation, Second};
 use crate::lesser::beside_table_a;
 use cases::{Kind, Question, UNTOLD};
@@ -6,16 +8,19 @@ use scenes::{Chance, IMAGE_BYTES};
 use tally::{Notes, PLENTY, alike, kept, needed, room_for, same, same_told};
 
 // The places of a buffer for an image.
-const IMAGE_ROOM: usize = IMAGE_BYTES + PLENTY;
+pub const IMAGE_ROOM: usize = IMAGE_BYTES + PLENTY;
 
 // The places of a buffer for rows: three numbers for each of 80 new channels and 79 moves.
 pub const NUMBERS: usize = 3 * 80 * 79 + PLENTY;
 
+// So many places are lent of short buffers, which cost little to fill.
+const FEW: usize = 512;
+
 // Two buffers for images, filled only as far as they are used.
 #[derive(Drop)]
 pub struct Images {
-    mine: [u8; IMAGE_ROOM],
-    other: [u8; IMAGE_ROOM],
+    pub mine: [u8; IMAGE_ROOM],
+    pub other: [u8; IMAGE_ROOM],
 }
 
 impl Images {
@@ -36,9 +41,25 @@ pub fn compare_number(q: Question, table: &[u8], notes: &mut Notes) -> bool {
     same(q, table, 0, one, two, 0)
 }
 
-// A buffer for rows. It is a function of its own: in place, the proof would unfold its many places.
-fn filled(filling: u32) -> [u32; NUMBERS] {
-    [filling; NUMBERS]
+// Check or arrange, into so many places of two buffers of N alike, all of them where that is more. The buffers are filled in place, and
+// as N is any number the proof unfolds none of their places.
+fn rows_within<const N: usize>(
+    q: Question,
+    table: &[u8],
+    places: usize,
+    filling: u32,
+    notes: &mut Notes,
+) -> bool
+    requires { N ≤ 19260 }
+{
+    let room = places.min(N);
+    let mut mine = [filling; N];
+    let mut other = [filling; N];
+    let one = First::rows(q, table, &mut mine[..room]);
+    let two = Second::rows(q, table, &mut other[..room]);
+    notes.note(q.kind, one);
+    let at = alike(&mine[..room], &other[..room], notes);
+    same(q, table, room, one, two, at)
 }
 
 // Check or arrange, into so many places of two buffers alike, all of them where that is more.
@@ -49,14 +70,11 @@ pub fn compare_rows(
     filling: u32,
     notes: &mut Notes,
 ) -> bool {
-    let room = places.min(NUMBERS);
-    let mut mine = filled(filling);
-    let mut other = filled(filling);
-    let one = First::rows(q, table, &mut mine[..room]);
-    let two = Second::rows(q, table, &mut other[..room]);
-    notes.note(q.kind, one);
-    let at = alike(&mine[..room], &other[..room], notes);
-    same(q, table, room, one, two, at)
+    if places <= FEW {
+        rows_within::<FEW>(q, table, places, filling, notes)
+    } else {
+        rows_within::<NUMBERS>(q, table, places, filling, notes)
+    }
 }
 
 // Reason, into two times four numbers alike.
@@ -74,18 +92,19 @@ fn image_case(
     chance: &mut Chance,
     q: Question,
     table: &[u8],
-    images: &mut Images,
+    mine: &mut [u8],
+    other: &mut [u8],
     notes: &mut Notes,
 ) -> bool {
     let need = needed(First::image(q, table, &mut [0]));
-    let room = room_for(chance, need).min(IMAGE_ROOM);
+    let room = room_for(chance, need).min(mine.len()).min(other.len());
     let filling = chance.below(256) as u8;
-    images.mine[..room].fill(filling);
-    images.other[..room].fill(filling);
-    let one = First::image(q, table, &mut images.mine[..room]);
-    let two = Second::image(q, table, &mut images.other[..room]);
-    notes.note_image(q.kind, one, table, &images.mine[..room]);
-    let at = alike(&images.mine[..room], &images.other[..room], notes);
+    mine[..room].fill(filling);
+    other[..room].fill(filling);
+    let one = First::image(q, table, &mut mine[..room]);
+    let two = Second::image(q, table, &mut other[..room]);
+    notes.note_image(q.kind, one, table, &mine[..room]);
+    let at = alike(&mine[..room], &other[..room], notes);
     same(q, table, room, one, two, at)
 }
 
@@ -97,19 +116,20 @@ fn rows_case(chance: &mut Chance, q: Question, table: &[u8], notes: &mut Notes) 
     compare_rows(q, table, places, filling, notes)
 }
 
-// A question of any kind, with some room.
+// A question of any kind, with some room; two buffers are lent for images, and filled only as far as they are used.
 pub fn compare(
     chance: &mut Chance,
     q: Question,
     table: &[u8],
-    images: &mut Images,
+    mine: &mut [u8],
+    other: &mut [u8],
     notes: &mut Notes,
 ) -> bool {
     notes.note_meridian(q, table);
     beside_table_a(q, table, notes);
     match q.kind {
         Kind::Read | Kind::Distance => compare_number(q, table, notes),
-        Kind::Add | Kind::Withdraw | Kind::Move => image_case(chance, q, table, images, notes),
+        Kind::Add | Kind::Withdraw | Kind::Move => image_case(chance, q, table, mine, other, notes),
         Kind::Check | Kind::Arrange => rows_case(chance, q, table, notes),
         Kind::Reason => {
             let filling = chance.below(4_294_967_295);

@@ -110,10 +110,32 @@ impl Implementation for First {
     }
 }
 
-// The second one.
+// The second one. It finds the function of each question by itself: a slip in that, on one side alone, shows as a difference.
 pub struct Second;
 
 impl Implementation for Second {
+    fn number(q: Question, table: &[u8]) -> u64 {
+        match q.kind {
+            Kind::Read => Self::read(table),
+            _ => Self::distance(q),
+        }
+    }
+
+    fn image(q: Question, table: &[u8], image: &mut [u8]) -> u64 {
+        match q.kind {
+            Kind::Add => Self::add(q, table, image),
+            Kind::Withdraw => Self::withdraw(q, table, image),
+            _ => Self::move_to(q, table, image),
+        }
+    }
+
+    fn rows(q: Question, table: &[u8], rows: &mut [u32]) -> u64 {
+        match q.kind {
+            Kind::Check => Self::check(q, table, rows),
+            _ => Self::arrange(q, table, rows),
+        }
+    }
+
     fn read(table: &[u8]) -> u64 {
         second::read(table)
     }

@@ -5,5 +5,7 @@ mod comparing;
 mod implementation;
 mod lesser;
 
-pub use comparing::{Images, NUMBERS, compare, compare_number, compare_reason, compare_rows};
+pub use comparing::{
+    IMAGE_ROOM, Images, NUMBERS, compare, compare_number, compare_reason, compare_rows,
+};
 pub use implementation::{First, Implementation, Second};

@@ -1,5 +1,5 @@
 // Made questions.
-ghost use Rattle.std.specs.Prelude.{◌<◌, ◌≤◌, length};
+ghost use Rattle.std.specs.Prelude.{◌≡◌, ◌<◌, ◌≤◌, length};
 ghost use Rattle.scenes.specs.Sizes.{most_records};
 
 use super::question::{Kind, Question};
@@ -34,28 +34,38 @@ impl Odds {
     }
 }
 
+// The first id of a table.
+pub fn first_id(chance: &mut Chance) -> u32
+    ensures { 0 < result }
+{
+    match chance.below(6) {
+        0 => 65_530,
+        1 => 16_777_210,
+        2 => 2_147_483_640,
+        3 => 4_294_967_200,
+        4 => 1 + chance.below(300),
+        _ => 1,
+    }
+}
+
 // The ids of a table: they rise by 3 from the first.
 #[derive(Clone, Copy)]
-pub(crate) struct Ids {
-    pub(crate) first: u32,
-    pub(crate) count: u32,
+pub struct Ids {
+    pub first: u32,
+    pub count: u32,
     pub ghost few: { count ≤ most_records },
 }
 
 impl Ids {
     // So many, from a made number on.
-    pub(crate) fn drawn(chance: &mut Chance, count: u32) -> Ids
+    pub fn drawn(chance: &mut Chance, count: u32) -> Ids
         requires { count ≤ most_records }
+        ensures { (result.count ≡ count) × (0 < result.first) }
     {
-        let first = match chance.below(6) {
-            0 => 65_530,
-            1 => 16_777_210,
-            2 => 2_147_483_640,
-            3 => 4_294_967_200,
-            4 => 1 + chance.below(300),
-            _ => 1,
-        };
-        Ids { first, count }
+        Ids {
+            first: first_id(chance),
+            count,
+        }
     }
 
     // One that a question leaves aside: 0, one of the table, seldom one behind it, or any.
@@ -221,7 +231,16 @@ fn asked_last(chance: &mut Chance, first: u32, count: u32, odds: Odds) -> u32 {
 }
 
 // A question of a kind about a table of a style whose records have such ids.
-pub(crate) fn made_question(chance: &mut Chance, kind: Kind, style: Style, ids: Ids) -> Question {
+pub fn made_question<K: Into<Kind>, S: Into<Style>>(
+    chance: &mut Chance,
+    kind: K,
+    style: S,
+    ids: Ids,
+) -> Question
+    ensures { K.converts kind result.kind }
+{
+    let kind: Kind = kind.into();
+    let style: Style = style.into();
     let odds = Odds::drawn(chance);
     let zone = 1 + chance.below(3);
     let site = asked_site(chance, style, odds);

@@ -8,14 +8,21 @@ use scenes::{Record, Site, put_header, put_record};
 pub const CHANNELS: [u32; 6] = [240, 241, 242, 237, 293, 294];
 
 // A question of a class in zone II at a longitude on the equator, by Table A; the second site is the crossing with the meridian.
-pub fn paper_question(kind: Kind, first: u32, last: u32, class: u32, lon: u32) -> Question
-    ensures asked { (result.kind ≡ kind) × (result.class ≡ class) }
+pub fn paper_question<K: Into<Kind>>(
+    kind: K,
+    first: u32,
+    last: u32,
+    class: u32,
+    lon: u32,
+) -> Question
+    ensures kind { K.converts kind result.kind }
+    ensures asked { result.class ≡ class }
     ensures channels { (result.channel ≡ first) × (result.last ≡ last) }
     ensures at { (result.site.lat ≡ 0) × (result.site.lon ≡ lon) }
     ensures plain { (result.id ≡ 0) × (result.standard ≡ 1) × (result.zone ≡ 3) }
 {
     Question {
-        kind,
+        kind: kind.into(),
         id: 0,
         standard: 1,
         channel: first,

@@ -10,7 +10,7 @@ use scenes::{Chance, LIMIT, LINE, Record, Style, damaged, made_table, repeat_som
 // What a run asks: one question; every question on a table, with arrange or without; or move or withdraw, of a station that mostly
 // is there.
 #[derive(Clone, Copy)]
-enum Asked {
+pub enum Asked {
     One(Kind),
     All,
     AllButArrange,
@@ -42,11 +42,11 @@ impl Asked {
 #[derive(Clone, Copy)]
 pub struct Run {
     pub cases: u32,
-    asked: Asked,
-    fewest: u32,
-    most: u32,
+    pub asked: Asked,
+    pub fewest: u32,
+    pub most: u32,
     pub style: Style,
-    damage: bool,
+    pub damage: bool,
     ghost few: { (fewest ≤ most) × (most ≤ most_records) },
 }
 
@@ -71,8 +71,11 @@ fn around(size: u32, cases: u32, asked: Asked, style: Style) -> Run
     between(size - 1, size + 2, cases, asked, style)
 }
 
+// How many runs there are.
+pub const RUNS: usize = 26;
+
 // The runs in a row.
-pub fn made_runs() -> [Run; 26] {
+pub fn made_runs() -> [Run; RUNS] {
     [
         // Distances at the limits, at the ends of the ranges, and out of range.
         between(0, 0, 26_000, Asked::One(Kind::Distance), Style::AtLimits),

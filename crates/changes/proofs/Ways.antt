@@ -1,5 +1,5 @@
 -- The ways through a change, and what each answers. Assumes nothing.
-use Rattle.std.specs.Prelude.{Ok, Err, Some, None}
+use Rattle.std.specs.Prelude.{Ok, Err, Some}
 use mathlib.Core.Path.{◌≡◌, refl, sym, ap, ◌∙◌}
 use mathlib.Core.Bool.{true, false, not}
 use mathlib.Core.List.{List}
@@ -7,25 +7,25 @@ use Prim.Native.Nat.{ℕ}
 use lib.Dec.{leb}
 use lib.ListN.{length}
 use borrow.Author.Tests.{eq-eqb, ne_eqb}
-use Rattle.ground.specs.Lists.{some}
+use Rattle.ground.specs.Guard.{given}
+use Rattle.ground.specs.Lists.{some, first}
 use Rattle.ground.proofs.Guards.{here, on}
 use Rattle.refusals.specs.Faults.{Answer}
 use Rattle.refusals.specs.declared.Fault.{Fault}
 use Rattle.refusals.specs.declared.Fault.TheVariants.{AskedChannel, IdZero, IdPresent, Short, TableFull, IdAbsent, NotMovable}
 use Rattle.versions.specs.Version.{limit}
-use Rattle.stations.specs.Image.{station_at, stations, count, judged, Accepted}
+use Rattle.stations.specs.Image.{stations, count, judged, Accepted}
 use Rattle.stations.specs.Encode.{encode}
-use Rattle.stations.specs.Lists.{has_id, movable, onto, insert, without, rechannel}
+use Rattle.stations.specs.Lists.{has_id, with_id, movable, onto, insert, without, rechannel}
 use Rattle.stations.specs.declared.Station.{Station}
-use Rattle.stations.proofs.Ids.{with_none}
 use Rattle.desk.specs.Answers.{grant, Answered}
 use Rattle.desk.specs.Asked.{outside}
 use Rattle.desk.proofs.Answers.{denied, table-refused, table-passed}
 use Rattle.finding.specs.Asking.{found_at, first_of}
 use Rattle.finding.specs.Conflicts.{conflicts}
-use Rattle.changes.specs.Changes.{Change, add, withdraw, move, asked_of, entered, entering, decide, written, changed_for}
+use Rattle.changes.specs.Changes.{Change, add, withdraw, move, Decision, asked_of, entered, entering, decide, written, changed_for}
 use Rattle.changes.specs.declared.Newcomer.{Newcomer}
-use Rattle.changes.proofs.There.{is_there, is_absent, is_one, is_none, with_at}
+use Rattle.changes.proofs.There.{is_there, is_absent, is_one}
 
 -- ---- from a decision to the answer
 
@@ -85,26 +85,26 @@ module _ (ss : List Station) (id p : ℕ) where
 
 -- ---- Move
 
-module _ (s : List ℕ) (id channel : ℕ) where
-  pub move-outside : outside channel ≡ true → decide (stations s) (move id channel) ≡ Err AskedChannel
+module _ (ss : List Station) (id channel : ℕ) where
+  pub move-outside : outside channel ≡ true → decide ss (move id channel) ≡ Err AskedChannel
   unfolding decide
   move-outside h = sym (here _ _ _ h refl)
 
-  module _ (inside : outside channel ≡ false) (p : ℕ) where
-    pub move-absent : found_at id (stations s) ≡ Err p → decide (stations s) (move id channel) ≡ Err IdAbsent
+  module _ (inside : outside channel ≡ false) where
+    pub move-absent : with_id id ss (Err IdAbsent) (λ r. given (not (movable r)) (Err (NotMovable (first (has_id id) ss))) (given (some (conflicts (onto channel r)) ss) (Err (Short (first (conflicts (onto channel r)) ss))) (Ok (rechannel id channel ss)))) ≡ Err IdAbsent → decide ss (move id channel) ≡ Err IdAbsent
     unfolding decide
-    move-absent f = sym (on _ _ _ inside (sym (with_none _ _ _ _ (is_absent _ _ _ f).0)))
+    move-absent e = sym (on _ _ _ inside (sym e))
 
-    module _ (e : Accepted s) (there : found_at id (stations s) ≡ Ok p) where
-      pub move_fixed : movable (station_at s p) ≡ false → decide (stations s) (move id channel) ≡ Err (NotMovable p)
+    module _ (x : Station) (at : (none : Decision) (one : Station → Decision) → with_id id ss none one ≡ one x) where
+      pub move_fixed : (p : ℕ) → first (has_id id) ss ≡ p → movable x ≡ false → decide ss (move id channel) ≡ Err (NotMovable p)
       unfolding decide
-      move_fixed h = sym (on _ _ _ inside (sym (with_at s e _ _ there _ _ ∙ sym (here _ _ _ (ap not h) (ap (λ (k : ℕ). Err (NotMovable k)) (sym (is_there _ _ _ there).1))))))
+      move_fixed p e h = sym (on _ _ _ inside (sym (at _ _ ∙ sym (here _ _ _ (ap not h) (ap (λ (k : ℕ). Err (NotMovable k)) (sym e))))))
 
-      module _ (free : movable (station_at s p) ≡ true) where
-        pub move-short : (q : ℕ) → first_of (conflicts (onto channel (station_at s p))) (stations s) ≡ Some q → decide (stations s) (move id channel) ≡ Err (Short q)
+      module _ (free : movable x ≡ true) where
+        pub move-short : (q : ℕ) → q ≡ first (conflicts (onto channel x)) ss → some (conflicts (onto channel x)) ss ≡ true → decide ss (move id channel) ≡ Err (Short q)
         unfolding decide
-        move-short q f = let t = is_one _ _ _ f in sym (on _ _ _ inside (sym (with_at s e _ _ there _ _ ∙ sym (on _ _ _ (ap not free) (here _ _ _ t.0 (ap (λ (k : ℕ). Err (Short k)) (sym t.1)))))))
+        move-short q e h = sym (on _ _ _ inside (sym (at _ _ ∙ sym (on _ _ _ (ap not free) (here _ _ _ h (ap (λ (k : ℕ). Err (Short k)) e))))))
 
-        pub move-granted : first_of (conflicts (onto channel (station_at s p))) (stations s) ≡ None → decide (stations s) (move id channel) ≡ Ok (rechannel id channel (stations s))
+        pub move-granted : some (conflicts (onto channel x)) ss ≡ false → decide ss (move id channel) ≡ Ok (rechannel id channel ss)
         unfolding decide
-        move-granted f = sym (on _ _ _ inside (sym (with_at s e _ _ there _ _ ∙ sym (on _ _ _ (ap not free) (on _ _ _ (is_none _ _ f) refl)))))
+        move-granted h = sym (on _ _ _ inside (sym (at _ _ ∙ sym (on _ _ _ (ap not free) (on _ _ _ h refl)))))

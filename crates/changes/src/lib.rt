@@ -54,7 +54,10 @@ impl Newcomer {
 pub fn add(table: &[u8], newcomer: Newcomer, image: &mut [u8]) -> Result<u32, Fault>
     ensures { Answered (changed_for table.now (adding newcomer)) image.old image.new result }
 {
-    let table = Table::of(table)?;
+    let judged = Table::of(table);
+    let Ok(table) = judged else {
+        return Err(judged.unwrap_err());
+    };
     let r = newcomer.record()?;
     enter(&table, r, image)
 }
@@ -84,7 +87,10 @@ fn enter(table: &Table<'_>, r: Station, image: &mut [u8]) -> Result<u32, Fault>
 pub fn withdraw(table: &[u8], id: u32, image: &mut [u8]) -> Result<u32, Fault>
     ensures { Answered (changed_for table.now (withdrawing id)) image.old image.new result }
 {
-    let table = Table::of(table)?;
+    let judged = Table::of(table);
+    let Ok(table) = judged else {
+        return Err(judged.unwrap_err());
+    };
     let Ok(p) = find(&table, id) else {
         return Err(Fault::IdAbsent);
     };
@@ -95,7 +101,10 @@ pub fn withdraw(table: &[u8], id: u32, image: &mut [u8]) -> Result<u32, Fault>
 pub fn move_to(table: &[u8], id: u32, channel: u32, image: &mut [u8]) -> Result<u32, Fault>
     ensures { Answered (changed_for table.now (moving id channel)) image.old image.new result }
 {
-    let table = Table::of(table)?;
+    let judged = Table::of(table);
+    let Ok(table) = judged else {
+        return Err(judged.unwrap_err());
+    };
     if desk::is_outside(channel) {
         return Err(Fault::AskedChannel);
     }

@@ -89,7 +89,10 @@ pub fn asked_fault(first: u32, last: u32, class: u32, zone: u32, site: Site) -> 
 pub fn read(table: &[u8]) -> Result<u32, Fault>
     ensures { result ≡ read_of table.now }
 {
-    let n = stations::judge(table)?;
+    let judged = stations::judge(table);
+    let Ok(n) = judged else {
+        return Err(judged.unwrap_err());
+    };
     Ok(n as u32)
 }
 

@@ -16,7 +16,14 @@ fn one_case(
     notes: &mut Notes,
 ) -> bool {
     let (q, length) = run.made_case(chance, table);
-    compare(chance, q, &table[..length], images, notes)
+    compare(
+        chance,
+        q,
+        &table[..length],
+        &mut images.mine,
+        &mut images.other,
+        notes,
+    )
 }
 
 // Whether no more tables were refused for a repeat than before; else says so.

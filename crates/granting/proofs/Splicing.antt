@@ -108,29 +108,27 @@ module _ {s : List ℕ} {p q : ℕ} (rs : List Station) (k : Splices s p q (leng
       rw (← same) (does_not_fit (encode left) entry (8 + 16 * many) need_is (ltb-true _ _ t.0))
 
   -- the header, the records before the place, and from the place on those that are set in and the later ones
-  pub granted : Bytes s → {entry headed part rest : List ℕ} {v : ℕ} → 8 + 16 * many ≤ length entry
+  pub granted : Bytes s → {entry headed fronted rest : List ℕ} {v : ℕ} → 8 + 16 * many ≤ length entry
       → v ≡ version_for many
       → headed ≡ sets entry 0 (header_of v many)
-      → part ≡ take (8 + 16 * p - 8) (drop 8 s)
-      → let fronted = put_mid 8 (8 + 16 * p - 8) headed part in
-      let room = length fronted - (8 + 16 * p) in
+      → fronted ≡ sets headed 8 (take (8 + 16 * p - 8) (drop 8 s))
+      → let room = length fronted - (8 + 16 * p) in
       rest ≡ sets (mid_of (8 + 16 * p) room fronted) 0 (each record_of rs ++ take (length s - (8 + 16 * q)) (drop (8 + 16 * q) s))
       → Answered (grant (encode left)) entry (put_mid (8 + 16 * p) room fronted rest) (Ok (8 + 16 * many))
-  granted b {entry} {headed} {part} {rest} {v} fit call h f x =
+  granted b {entry} {headed} {fronted} {rest} {v} fit call h f x =
       let ss = stations s in
       let at = 8 + 16 * p in
       let a = header_of v many in
       let t = each record_of (take p ss) in
       let d = each record_of rs ++ each record_of (drop q ss) in
-      let fronted = put_mid 8 (at - 8) headed part in
       let long : length s ≡ 8 + 16 * count s = table.long in
       let n : length t ≡ 16 * p = omega (arith, length_body (take p ss), front_long) in
       let m : length d ≡ 16 * (length rs + (count s - q)) =
       length-append (each record_of rs) (each record_of (drop q ss)) ∙ omega (arith, length_body rs, length_body (drop q ss), length-drop q ss, length-stations table) in
       let w : at - 8 ≡ 16 * p = omega arith in
       let head : length headed ≡ length entry = ap length h ∙ simp length-sets in
-      let front : part ≡ t = f ∙ ap (λ (k : ℕ). take k (drop 8 s)) w ∙ take-image s b (count s) k.accepted p k.front in
-      let copied : fronted ≡ sets headed 8 t = ap (put_mid 8 (at - 8) headed) front ∙ put_run 8 (at - 8) headed t (n ∙ sym w) (omega (arith, k.back)) in
+      let front : take (at - 8) (drop 8 s) ≡ t = ap (λ (k : ℕ). take k (drop 8 s)) w ∙ take-image s b (count s) k.accepted p k.front in
+      let copied : fronted ≡ sets headed 8 t = f ∙ ap (sets headed 8) front in
       let same : length fronted ≡ length entry = ap length copied ∙ simp length-sets head in
       let back : take (length s - (8 + 16 * q)) (drop (8 + 16 * q) s) ≡ each record_of (drop q ss) =
       take_all (length s - (8 + 16 * q)) (drop (8 + 16 * q) s) (omega (arith, length-drop (8 + 16 * q) s)) ∙ drop-image s b (count s) k.accepted q k.back in

@@ -24,7 +24,7 @@ fn put_rest(rest: &mut [u8], records: &[Station], later: &[u8])
         stations::put_station(rest, at, *r);
         at += RECORD;
     }
-    rest[at..at + later.len()].copy_from_slice(later);
+    stations::copy(later, 0, rest, at, later.len());
 }
 
 // The list with some records in place of those at the positions of a range. It takes a plain slice: of one in a struct the check does not know
@@ -46,7 +46,7 @@ fn splice(
     stations::put_header(image, version, n as u16);
     let at = HEADER + RECORD * replaced.start;
     let from = HEADER + RECORD * replaced.end;
-    image[HEADER..at].copy_from_slice(&table[HEADER..at]);
+    stations::copy(table, HEADER, image, HEADER, at - HEADER);
     put_rest(&mut image[at..], records, &table[from..]);
     Ok(need)
 }

@@ -4,7 +4,7 @@ use mathlib.Core.List.{List, [], ◌∷◌, ◌++◌, append-nil}
 use Prim.Native.Nat.{ℕ, ◌+◌, ◌-◌, ◌≤◌, ◌<◌}
 use native.Mathlib.Numerals.{add-one}
 use native.Mathlib.Omega.{arith}
-use lib.ListN.{length, take, drop, get_or, length-append}
+use lib.ListN.{length, set, take, drop, get_or, length-append}
 use lib.Seq.{sets, length-sets, sets-eq, drop-drop, take-suc}
 use borrow.Rule.Slice.PartMut.{put_mid}
 use Rattle.std.proofs.Common.{append_assoc}
@@ -12,12 +12,12 @@ use Rattle.ground.specs.Writing.{Wrote}
 use Rattle.ground.specs.Lists.{each}
 use Rattle.ground.proofs.Spans.{each_append}
 use Rattle.ground.proofs.Writes.{sets_append, wrote_as, wrote_none}
-use Rattle.streams.specs.declared.Text.{Text}
+use Rattle.lines.specs.declared.buffer.Text.{Text}
 use Rattle.lines.specs.Lines.{spaced, ended, numbers_line}
 use Rattle.lines.specs.Puts.{Puts}
 
-wrote_both : {u v entry mid exit : List ℕ} {at next r : ℕ} → Wrote u entry at mid next → Wrote v mid next exit r → Wrote (u ++ v) entry at exit r
-wrote_both {u} {v} {entry} {mid} {exit} {at} {next} a b =
+pub both : {u v entry mid exit : List ℕ} {at next r : ℕ} → Wrote u entry at mid next → Wrote v mid next exit r → Wrote (u ++ v) entry at exit r
+both {u} {v} {entry} {mid} {exit} {at} {next} a b =
     record {
       next = omega (arith, a.next, b.next, length-append u v);
       stored =
@@ -26,6 +26,14 @@ wrote_both {u} {v} {entry} {mid} {exit} {at} {next} a b =
           ∙ ap (λ (l : List ℕ). sets l (at + length u) v) a.stored
           ∙ sym (sets_append u v entry at);
     }
+
+-- one byte
+pub byte : (entry : List ℕ) (at x : ℕ) → Wrote (x ∷ []) entry at (set entry at x) (at + 1)
+byte entry at x = record { next = refl; stored = refl }
+
+-- a text keeps its length
+pub kept : {vs entry exit : List ℕ} {at r : ℕ} → Wrote vs entry at exit r → length exit ≡ length entry
+kept {vs} {entry} {exit} {at} w = ap length w.stored ∙ length-sets entry at vs
 
 -- a word that is copied to a place stands there
 pub placed : (old u : List ℕ) (at e : ℕ) → e ≡ at + length u → e ≤ length old → put_mid at (e - at) old u ≡ sets old at u
@@ -45,12 +53,12 @@ module _ {a b : Text} where
   puts_as e p = record { wrote = wrote_as e p.wrote; same_reference = p.same_reference }
 
   -- a text keeps its length
-  pub kept : {vs : List ℕ} → Puts vs a b → length b.bytes.now ≡ length a.bytes.now
-  kept {vs} p = ap length p.wrote.stored ∙ length-sets a.bytes.now a.at vs
+  pub puts_kept : {vs : List ℕ} → Puts vs a b → length b.bytes.now ≡ length a.bytes.now
+  puts_kept p = kept p.wrote
 
   -- one part behind another
-  pub both : {u v : List ℕ} {c : Text} → Puts u a b → Puts v b c → Puts (u ++ v) a c
-  both p q = record { wrote = wrote_both p.wrote q.wrote; same_reference = q.same_reference ∙ p.same_reference }
+  pub puts_both : {u v : List ℕ} {c : Text} → Puts u a b → Puts v b c → Puts (u ++ v) a c
+  puts_both p q = record { wrote = both p.wrote q.wrote; same_reference = q.same_reference ∙ p.same_reference }
 
 -- a line of no numbers
 pub no_numbers : {a : Text} (numbers : List ℕ) → length numbers ≡ 0 → Puts (numbers_line numbers) a a

@@ -1,7 +1,7 @@
 -- What a function that puts a line into a buffer promises. Assumes nothing.
 use Rattle.std.specs.Prelude.{◌≡◌, List, ℕ}
 use Rattle.ground.specs.Writing.{Wrote}
-use Rattle.streams.specs.declared.Text.{Text}
+use Rattle.lines.specs.declared.buffer.Text.{Text}
 
 -- the line stands behind what was in the buffer, which is still the same
 pub record Puts (line : List ℕ) (old new : Text) : Type 0 where

@@ -6,8 +6,10 @@ ghost use Rattle.ground.specs.Lists.{span, each};
 ghost use Rattle.lines.specs.Lines.{number_then, numbers_line, clear_line, short_line, refused_line, line_at};
 ghost use Rattle.lines.specs.Puts.{Puts};
 
+mod buffer;
+
+pub use buffer::Text;
 use refusals::Refusal;
-use streams::Text;
 
 // The longest line of three numbers of ten digits, and the byte after each; and that of five.
 pub const LINE: usize = 33;

@@ -1,5 +1,5 @@
 -- The numbers of one new channel, by its mark. Assumes nothing.
-use mathlib.Core.Path.{◌≡◌}
+use mathlib.Core.Path.{◌≡◌, ap, ◌∙◌}
 use mathlib.Core.Bool.{Bool}
 use mathlib.Core.List.{List, [], ◌∷◌}
 use Prim.Native.Nat.{ℕ, suc, ◌-◌, ◌*◌, ◌≤◌, ◌<◌}
@@ -21,11 +21,15 @@ module _ (id : ℕ → ℕ) (row : List Bool) (c v : ℕ) where
   unfolding mark_rows
   rows_many e = rw (ne_eqb v 0 (λ q. omega arith), eq-eqb v many e)
 
-  pub rows_lone : (i : ℕ) → v ≡ suc i → v < many → move_rows row (id i) c ≡ mark_rows id row c v
+  pub rows_lone : (v ≡ 0 → ⊥) → (v ≡ many → ⊥) → move_rows row (id (v - 1)) c ≡ mark_rows id row c v
   unfolding mark_rows
-  rows_lone i e l =
-      let f : v - 1 ≡ i = omega (arith, e) in
-      rw (ne_eqb v 0 (λ q. omega arith), ne_eqb v many (λ q. omega arith), f)
+  rows_lone n m = rw (ne_eqb v 0 n, ne_eqb v many m)
+
+  -- by the position of the one that stands in the way
+  pub rows_lone_at : (i : ℕ) → v ≡ suc i → v < many → move_rows row (id i) c ≡ mark_rows id row c v
+  rows_lone_at i e l =
+      let f : i ≡ v - 1 = omega (arith, e) in
+      ap (λ (k : ℕ). move_rows row (id k) c) f ∙ rows_lone (λ q. omega arith) (λ q. omega arith)
 
 -- the moves of one station are at most 80 rows
 pub moves_bound : (row : List Bool) (id c : ℕ) → length (move_rows row id c) ≤ 3 * channel_count

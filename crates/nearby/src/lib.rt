@@ -11,7 +11,7 @@ ghost use Rattle.nearby.specs.Positions.{short_positions, Asked, Free, NextHeld,
 mod nearness;
 
 use arrayvec::ArrayVec;
-use nearness::free_of;
+pub use nearness::free_of;
 use survey::{Study, Walk};
 use versions::LIMIT;
 

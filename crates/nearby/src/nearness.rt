@@ -12,7 +12,7 @@ fn hold(free: &mut [bool; 256], channel: usize, d: usize)
 }
 
 // For each channel, at its number's last byte, whether no column applies to it and this one: made once for a walk and lent on.
-pub(crate) fn free_of(channel: usize) -> [bool; 256]
+pub fn free_of(channel: usize) -> [bool; 256]
     requires { Asked channel }
     ensures { Free channel result }
 {

@@ -5,7 +5,7 @@ use mathlib.Core.List.{List, [], ◌∷◌, ◌++◌, append-nil}
 use Prim.Native.Nat.{ℕ, ◌+◌, ◌-◌, ◌≤◌, ◌<◌}
 use native.Mathlib.Numerals.{add-one}
 use native.Mathlib.Omega.{arith}
-use lib.ListN.{length, drop}
+use lib.ListN.{length, take, drop}
 use Rattle.ground.specs.Lists.{span, each}
 use Rattle.ground.specs.Rows.{Row, flat}
 use Rattle.ground.proofs.Spans.{span_cons, span-done, each-each}
@@ -20,12 +20,10 @@ use Rattle.studies.specs.Studies.{asked}
 use Rattle.arrangements.specs.Arrange.{arranged, arrangements}
 use Rattle.lines.specs.Lines.{row_line, refused_line}
 use Rattle.streams.specs.Pieces.{Telling}
-use Rattle.streams.specs.declared.Text.{Text}
 use Rattle.asking.specs.Asking.{wanted_of, arrange_input}
 use Rattle.asking.proofs.Fitting.{one_channel}
 use Rattle.asking.proofs.OneByOne.{rows_of, regrant, alike}
 use Rattle.telling.specs.Texts.{printed, lines_text}
-use Rattle.telling.proofs.Waiting.{waits}
 use Rattle.programs.specs.OneChannel.{channel_text, is_denied}
 use Rattle.programs.specs.Printed.{printed_arrange}
 
@@ -132,8 +130,11 @@ module _ (terms : Terms) (input : List ℕ) where
       go (grant vs) b = ap (each (λ m. each row_text (rows_on m))) (span-done c (highest + 1) (omega arith))
 
 -- ---- where the lines of the new channels before one are told or wait
-pub record Turns (text₀ : Text) (input : List ℕ) (terms : Terms) (mark₀ : ℕ) (text : Text) (mark channel : ℕ) : Type 0 where
-  pub length_kept : length text.bytes.now ≡ length text₀.bytes.now
+pub record Turns (text₀ input : List ℕ) (terms : Terms) (mark₀ : ℕ) (text : List ℕ) (mark at channel : ℕ) : Type 0 where
+  pub low : lowest ≤ channel
+  pub high : channel ≤ highest + 1
+  pub long : length text ≡ length text₀
+  pub place : at ≤ length text
   -- past the first of them nothing is refused
   pub granted : lowest < channel → is_denied (arrange_input lowest highest terms input) ≡ false
-  pub telling : Telling (printed_arrange terms input) mark₀ mark (waits text) (left_from terms input channel)
+  pub telling : Telling (printed_arrange terms input) mark₀ mark (take at text) (left_from terms input channel)

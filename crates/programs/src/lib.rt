@@ -11,12 +11,14 @@ ghost use Rattle.programs.specs.Printed.{printed_check, printed_arrange, printed
 ghost use Rattle.programs.specs.Ran.{Ran};
 
 use asking::{asked_arrange, asked_change, asked_check, asked_distance, asked_reason, standard_of};
-use lines::{LINE, REASON_LINE};
+use lines::{LINE, REASON_LINE, Text};
 use part73::{CHANNEL_COUNT, HIGHEST_ASKED, LOWEST_ASKED};
-use streams::{Text, Unwritten};
+use streams::Unwritten;
 use subjects::{AFTER_TERMS, Subject, subject_of};
 use survey::Terms;
-use telling::{put_answer, tell_change, tell_check, tell_distance, tell_reason};
+use telling::{
+    hand_over, make_room, put_answer, tell_change, tell_check, tell_distance, tell_reason,
+};
 
 // What a program asks.
 #[derive(Clone, Copy)]
@@ -78,13 +80,13 @@ fn tell_channels(
 {
     let mut lines = Text { bytes: text, at: 0 };
     for channel in LOWEST_ASKED..=HIGHEST_ASKED {
-        lines.room(LINE * MOVES, mark)?;
+        make_room(&mut lines, LINE * MOVES, mark)?;
         let refused = put_channel(&mut lines, input, terms, channel);
         if refused {
-            return lines.hand_over(mark);
+            return hand_over(&lines, mark);
         }
     }
-    lines.hand_over(mark)
+    hand_over(&lines, mark)
 }
 
 // Arrange, on its input, for the new channels from 221 to 300.

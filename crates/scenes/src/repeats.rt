@@ -1,5 +1,5 @@
 // Records that repeat an earlier one in channel, class and site: kept out of a table, or put into it.
-ghost use Rattle.std.specs.Prelude.{◌≡◌, ◌<◌};
+ghost use Rattle.std.specs.Prelude.{◌≡◌, ◌<◌, ◌≤◌};
 
 use super::chance::Chance;
 use super::image::{Field, Record, put, start_of};
@@ -17,10 +17,17 @@ fn word_at(table: &[u8], position: u32) -> Option<u128> {
     Some(u128::from_be_bytes(*bytes))
 }
 
-// Whether one of the first n records has the channel, the class and the site of another.
+// Whether the record at a position has the channel, the class and the site of another, given as its word. The last byte, of the
+// longitude, is compared first, for most records differ in it.
+fn repeats_it(table: &[u8], position: u32, other: u128) -> bool {
+    table.get(start_of(position) + 15) == Some(&((other % 256) as u8))
+        && word_at(table, position).is_some_and(|word| word & STATION == other & STATION)
+}
+
+// Whether one of the first n records does.
 fn met_before(table: &[u8], n: u32, record: Record) -> bool {
-    let station = record.word() & STATION;
-    (0..n).any(|i| word_at(table, i).is_some_and(|word| word & STATION == station))
+    let word = record.word();
+    (0..n).any(|i| repeats_it(table, i, word))
 }
 
 // The same record one second farther east.
@@ -78,16 +85,24 @@ fn tell_apart(chance: &mut Chance, table: &mut [u8], from: u32, to: u32) {
     }
 }
 
+// The next position, or any of n.
+fn next_or_any(chance: &mut Chance, position: u32, n: u32) -> u32
+    requires { position < n }
+    ensures { result ≤ n }
+{
+    if chance.once_in(3) {
+        position + 1
+    } else {
+        chance.below(n)
+    }
+}
+
 // Makes a record of a table of n, or the one behind them, repeat the one before it, or any other; or nearly so.
 fn repeat_one(chance: &mut Chance, table: &mut [u8], n: u32)
     requires { 0 < n }
 {
     let from = chance.below(n);
-    let to = if chance.once_in(3) {
-        from + 1
-    } else {
-        chance.below(n)
-    };
+    let to = next_or_any(chance, from, n);
     copy_station(table, from, to);
     tell_apart(chance, table, from, to);
 }

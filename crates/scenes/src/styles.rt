@@ -22,6 +22,27 @@ pub enum Style {
     Repeating,
 }
 
+// The style of a number, from 0 in this order; any further one is astride, as all are from there on where records are made.
+impl From<u32> for Style {
+    ghost use Rattle.std.specs.Prelude.{◌≡◌, ◌≤◌, ◌<◌};
+    ghost use Rattle.scenes.specs.declared.styles.Style.TheVariants.{Astride};
+    ghost use Rattle.scenes.specs.Styles.{style_number};
+
+    ghost from_gives = { λ n s. (n ≤ 6 → style_number s ≡ n) × (6 < n → s ≡ Astride) };
+
+    fn from(number: u32) -> Style {
+        match number {
+            0 => Style::AtLimits,
+            1 => Style::Scattered,
+            2 => Style::Low,
+            3 => Style::Equals,
+            4 => Style::Crowded,
+            6 => Style::Repeating,
+            _ => Style::Astride,
+        }
+    }
+}
+
 impl Style {
     // Any of the first five.
     pub fn any(chance: &mut Chance) -> Style

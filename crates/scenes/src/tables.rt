@@ -19,6 +19,7 @@ const NARROW: u32 = 400;
 // An end of a range, or any place within it.
 fn place_within(chance: &mut Chance, most: u32) -> u32
     requires { most ≤ 2000000 }
+    ensures { result ≤ most }
 {
     if chance.once_in(8) {
         0
@@ -79,7 +80,9 @@ pub fn site_astride(chance: &mut Chance) -> Site
 }
 
 // A channel difference: one with a requirement, or one beside such.
-fn difference(chance: &mut Chance) -> u32 {
+fn difference(chance: &mut Chance) -> u32
+    ensures { result ≤ 55 }
+{
     match chance.below(10) {
         0 | 1 => 0,
         2 => 1,
@@ -94,7 +97,9 @@ fn difference(chance: &mut Chance) -> u32 {
 }
 
 // Any channel of a record.
-fn any_channel(chance: &mut Chance) -> u32 {
+fn any_channel(chance: &mut Chance) -> u32
+    ensures { result ≤ 300 }
+{
     201 + chance.below(100)
 }
 
@@ -225,18 +230,20 @@ fn made_record(chance: &mut Chance, id: u32, asked: Record, from: Record, style:
     }
 }
 
-// Writes a table of n records whose ids rise by 3 from a number, made from what is asked, and gives its length.
-pub fn made_table(
+// Writes a table of n records whose ids rise by 3 from a number, made from what is asked in a style or the style of a number, and gives
+// its length.
+pub fn made_table<S: Into<Style>>(
     chance: &mut Chance,
     asked: Record,
     start: u32,
     n: usize,
-    style: Style,
+    style: S,
     table: &mut [u8],
 ) -> usize
     requires { n ≤ most_records }
     ensures { result ≤ longest }
 {
+    let style: Style = style.into();
     let n = n as u32;
     put_header(table, n);
     let mut from = asked;

@@ -1,6 +1,6 @@
 // The refusals, and how an answer is packed into 64 bits.
 ghost use Rattle.std.specs.Prelude.{◌≡◌, ◌+◌, ◌*◌, ◌^◌, ◌≤◌, ◌<◌};
-ghost use Rattle.second.specs.Answer.{highest};
+ghost use Rattle.second.specs.Answer.{highest, number, extra};
 
 // What is wrong with a record, with its refusal's number.
 #[derive(Clone, Copy)]
@@ -43,7 +43,8 @@ pub(crate) enum Refusal {
 impl Refusal {
     // Its number and its extra number, 0 where there is none.
     fn numbers(self) -> (u32, u32)
-        ensures { (1 ≤ result.0) × (result.0 ≤ highest) }
+        ensures bounded { (1 ≤ result.0) × (result.0 ≤ highest) }
+        ensures told { (result.0 ≡ number self) × (result.1 ≡ extra self) }
     {
         match self {
             Refusal::UnderEightBytes => (1, 0),

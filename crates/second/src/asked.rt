@@ -1,4 +1,6 @@
 // What is asked of a proposal.
+ghost use Rattle.std.specs.Prelude.{◌≤◌, IfOk};
+
 use super::answer::Refusal;
 use super::stations::{Site, Standard, Station};
 
@@ -22,6 +24,9 @@ pub(crate) struct Proposal {
     pub(crate) station: Station,
     pub(crate) last: u16,
     pub(crate) standard: Standard,
+    ghost from_221: { 221 ≤ station.channel },
+    ghost in_order: { station.channel ≤ last },
+    ghost to_300: { last ≤ 300 },
 }
 
 impl Asked {
@@ -60,7 +65,9 @@ impl Asked {
 }
 
 // The channel of a number, from 221 to 300.
-pub(crate) fn channel_of(number: u32) -> Result<u16, Refusal> {
+pub(crate) fn channel_of(number: u32) -> Result<u16, Refusal>
+    ensures { IfOk result (λ channel. (221 ≤ channel) × (channel ≤ 300)) }
+{
     if !(221..=300).contains(&number) {
         return Err(Refusal::AskedChannel);
     }

@@ -1,5 +1,7 @@
 // Rows of three numbers in a buffer.
-ghost use Rattle.std.specs.Prelude.{◌≤◌, length, IfOk};
+ghost use Rattle.std.specs.Prelude.{◌≡◌, ◌+◌, ◌-◌, ◌^◌, ◌≤◌, min, length, IfOk, MatchResult};
+ghost use Rattle.std.specs.Borrow.{MutBor};
+ghost use Rattle.second.specs.declared.rows.Rows.{Rows};
 
 use super::answer::Refusal;
 use std::slice::IterMut;
@@ -13,7 +15,9 @@ pub(crate) struct Rows<'a> {
 
 impl<'a> Rows<'a> {
     // An empty buffer.
-    pub(crate) fn new(room: &'a mut [u32]) -> Rows<'a> {
+    pub(crate) fn new(room: &'a mut [u32]) -> Rows<'a>
+        ensures { result.numbers ≡ 0 }
+    {
         let (places, _) = room.as_chunks_mut::<3>();
         Rows {
             free: places.iter_mut(),
@@ -22,7 +26,9 @@ impl<'a> Rows<'a> {
     }
 
     // Puts a row behind those before it. Those of a table are far below 2^32, so the count is exact.
-    pub(crate) fn push(&mut self, row: [u32; 3]) {
+    pub(crate) fn push(&mut self, row: [u32; 3])
+        ensures { self.new.numbers ≡ min (self.old.numbers + 3) (2 ^ 32 - 1) }
+    {
         if let Some(place) = self.free.next() {
             *place = row;
         }
@@ -30,7 +36,9 @@ impl<'a> Rows<'a> {
     }
 
     // How many numbers the rows are.
-    pub(crate) fn numbers(&self) -> u32 {
+    pub(crate) fn numbers(&self) -> u32
+        ensures { result ≡ self.now.numbers }
+    {
         self.numbers
     }
 }
@@ -38,7 +46,8 @@ impl<'a> Rows<'a> {
 // Puts rows into a buffer if all fit, counting them before; gives how many numbers they are.
 pub(crate) fn put_all<F: Fn(&mut Rows<'_>)>(room: &mut [u32], put: F) -> Result<u32, Refusal>
     requires { F.IsAlwaysCallable put }
-    ensures { IfOk result (λ need. need ≤ length room.old) }
+    ensures fits { IfOk result (λ need. need ≤ length room.old) }
+    ensures counted { (empty full : MutBor Rows) × (empty.now.numbers ≡ 0) × F.post put empty tt full × MatchResult result (λ need. need ≡ full.now.numbers) (λ refusal. refusal ≡ Refusal.NoRoom full.now.numbers) }
 {
     let mut counted = Rows::new(&mut []);
     put(&mut counted);

@@ -1,6 +1,7 @@
 // The question check.
-ghost use Rattle.std.specs.Prelude.{◌≤◌, length, IfOk};
-ghost use Rattle.second.specs.Answer.{Packed};
+ghost use Rattle.std.specs.Prelude.{◌≡◌, ◌+◌, ◌*◌, ◌≤◌, length, IfOk, MatchResult};
+ghost use Rattle.second.specs.Answer.{Packed, number, extra};
+ghost use Rattle.second.specs.Sizes.{capacity};
 
 use super::answer::{Refusal, packed};
 use super::asked::Asked;
@@ -9,7 +10,9 @@ use super::stations::Station;
 use super::studies::Study;
 
 // Puts the rows of the stations that are short to the proposal and not left aside.
-fn put_short(study: &Study, rows: &mut Rows) {
+fn put_short(study: &Study, rows: &mut Rows)
+    ensures { rows.new.numbers ≤ rows.old.numbers + 3 * capacity }
+{
     let new = study.proposal.station;
     let standard = study.proposal.standard;
     for record in study.table.records {
@@ -24,12 +27,19 @@ fn put_short(study: &Study, rows: &mut Rows) {
     }
 }
 
+// Puts the rows of the short stations if all fit; gives how many numbers they are.
+fn put_if_room(study: &Study, rows: &mut [u32]) -> Result<u32, Refusal>
+    ensures { MatchResult result (λ need. (need ≤ length rows.old) × (need ≤ 3 * capacity)) (λ refusal. (number refusal ≡ 22) × (extra refusal ≤ 3 * capacity)) }
+{
+    put_all(rows, |rows| put_short(study, rows))
+}
+
 // How many numbers the rows of the short stations are.
 fn checked(table: &[u8], asked: Asked, rows: &mut [u32]) -> Result<u32, Refusal>
-    ensures { IfOk result (λ need. need ≤ length rows.old) }
+    ensures { IfOk result (λ need. (need ≤ length rows.old) × (need ≤ 3 * capacity)) }
 {
     let study = Study::new(table, asked)?;
-    put_all(rows, |rows| put_short(&study, rows))
+    put_if_room(&study, rows)
 }
 
 // The rows id, D, R of the stations that are short to a proposal by a standard; the station of an id is left aside, 0 for none.

@@ -1,5 +1,6 @@
 // Sites, stations, and who is short to whom.
-ghost use Rattle.std.specs.Prelude.{◌≤◌, ◌<◌};
+ghost use Rattle.std.specs.Prelude.{◌≤◌, ◌<◌, IfErr};
+ghost use Rattle.second.specs.Answer.{flaw_number};
 
 use super::answer::{Flaw, Refusal};
 use second_rule::{LATITUDES, LESSER, LONGITUDES, TABLE_A, column, kilometres, separation};
@@ -13,7 +14,7 @@ const EQUATOR: u32 = 270_000;
 const MERIDIAN: u32 = 648_000;
 
 // Seconds from the southern and from the western end of the range; over its extent where the site is out of range.
-#[derive(Clone, Copy, PartialEq, Eq)]
+#[derive(Clone, Copy)]
 pub(crate) struct Site {
     pub(crate) north: u32,
     pub(crate) east: u32,
@@ -87,23 +88,6 @@ impl Standard {
     }
 }
 
-// The channel, class and site of a station.
-#[derive(Clone, Copy, PartialEq, Eq)]
-pub(crate) struct Entry {
-    channel: u16,
-    class: u8,
-    site: Site,
-}
-
-impl Entry {
-    // That of no station.
-    pub(crate) const NONE: Entry = Entry {
-        channel: 0,
-        class: 0,
-        site: Site { north: 0, east: 0 },
-    };
-}
-
 // A station or a proposal. What is proposed to check, arrange or reason has the id of the station left aside, 0 for none.
 #[derive(Clone, Copy)]
 pub(crate) struct Station {
@@ -141,7 +125,9 @@ impl Station {
     }
 
     // What is wrong with it behind a station of an id, 0 for none: its fields in order.
-    pub(crate) fn judge(self, before: u32) -> Result<(), Flaw> {
+    pub(crate) fn judge(self, before: u32) -> Result<(), Flaw>
+        ensures { IfErr result (λ flaw. flaw_number flaw ≤ 12) }
+    {
         if self.id <= before {
             return Err(Flaw::Id);
         }
@@ -163,13 +149,13 @@ impl Station {
         Ok(())
     }
 
-    // What no two stations of a table have alike.
-    pub(crate) fn entry(self) -> Entry {
-        Entry {
-            channel: self.channel,
-            class: self.class,
-            site: self.site,
-        }
+    // What no two stations of a table have alike: channel, class and site, in one number. The remainders change nothing of a station
+    // that is in order.
+    pub(crate) fn entry(self) -> u64 {
+        let kind = u64::from(self.channel % 512) * 8 + u64::from(self.class % 8);
+        let north = u64::from(self.site.north) % (LATITUDES + 1);
+        let east = u64::from(self.site.east) % (LONGITUDES + 1);
+        (kind * (LATITUDES + 1) + north) * (LONGITUDES + 1) + east
     }
 
     // Whether it may be moved.

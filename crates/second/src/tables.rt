@@ -1,10 +1,13 @@
 // A table image that is in order, and its stations by position and by id.
-ghost use Rattle.std.specs.Prelude.{◌≤◌, ◌<◌, length, IfSome};
+ghost use Rattle.std.specs.Prelude.{◌≡◌, ◌≤◌, ◌<◌, length, IfSome, IfOk, IfErr};
+ghost use Rattle.std.specs.Range.{range_inclusive_end};
+ghost use Rattle.second.specs.Answer.{highest, number, extra};
 ghost use Rattle.second.specs.Sizes.{capacity};
 
 use super::answer::{Flaw, Refusal};
-use super::stations::{Entry, Record, Standard, Station};
+use super::stations::{Record, Standard, Station};
 use super::versions::{CAPACITY, range_of};
+use std::ops::RangeInclusive;
 
 // The records of a table.
 #[derive(Clone, Copy)]
@@ -22,12 +25,12 @@ impl<'a> Table<'a> {
         Ok(table)
     }
 
-    // The records of an image whose header and length are in order.
-    fn framed(image: &'a [u8]) -> Result<Table<'a>, Refusal> {
-        let Some((header, body)) = image.split_first_chunk::<8>() else {
-            return Err(Refusal::UnderEightBytes);
-        };
-        let [b'F', b'M', b'S', v1, v0, sixth, n1, n0] = *header else {
+    // The numbers of stations that a header's version is for, or what is wrong with its first six bytes.
+    fn range_named(header: &[u8; 8]) -> Result<RangeInclusive<usize>, Refusal>
+        ensures early { IfErr result (λ refusal. number refusal ≤ 4) }
+        ensures most { IfOk result (λ range. range_inclusive_end range ≤ capacity) }
+    {
+        let [b'F', b'M', b'S', v1, v0, sixth, _, _] = *header else {
             return Err(Refusal::OtherMark);
         };
         let Some(range) = range_of(u16::from_be_bytes([v1, v0])) else {
@@ -36,6 +39,22 @@ impl<'a> Table<'a> {
         if sixth != 0 {
             return Err(Refusal::SixthByte);
         }
+        Ok(range)
+    }
+
+    // The records of an image whose header and length are in order.
+    fn framed(image: &'a [u8]) -> Result<Table<'a>, Refusal>
+        ensures early { IfErr result (λ refusal. number refusal ≤ 6) }
+        ensures short { length image.now < 8 → IfErr result (λ refusal. number refusal ≡ 1) }
+    {
+        let Some((header, body)) = image.split_first_chunk::<8>() else {
+            return Err(Refusal::UnderEightBytes);
+        };
+        let range = match Table::range_named(header) {
+            Ok(range) => range,
+            Err(refusal) => return Err(refusal),
+        };
+        let [_, _, _, _, _, _, n1, n0] = *header;
         let n = usize::from(u16::from_be_bytes([n1, n0]));
         if !range.contains(&n) {
             return Err(Refusal::OtherCount);
@@ -49,7 +68,9 @@ impl<'a> Table<'a> {
     }
 
     // The first record that is not in order by itself and behind the one before it.
-    fn judge_records(&self) -> Result<(), Refusal> {
+    fn judge_records(&self) -> Result<(), Refusal>
+        ensures { IfErr result (λ refusal. (number refusal ≤ 12) × (extra refusal < length self.now.records.now)) }
+    {
         let mut before = 0;
         for (i, record) in self.records.iter().enumerate() {
             let station = Station::from_record(record);
@@ -62,11 +83,13 @@ impl<'a> Table<'a> {
     }
 
     // The first station that is entered a second time, found by holding each against all before it.
-    fn judge_repeats(&self) -> Result<(), Refusal> {
-        let mut entries = [Entry::NONE; CAPACITY];
+    fn judge_repeats(&self) -> Result<(), Refusal>
+        ensures { IfErr result (λ refusal. (number refusal ≡ highest) × (extra refusal < length self.now.records.now)) }
+    {
+        let mut entries = [0; CAPACITY];
         for (i, record) in self.records.iter().enumerate() {
             let entry = Station::from_record(record).entry();
-            if entries[..i].contains(&entry) {
+            if entries[..i].iter().any(|before| *before == entry) {
                 return Err(Refusal::Record(Flaw::Again, i as u32));
             }
             entries[i] = entry;

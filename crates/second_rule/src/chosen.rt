@@ -18,11 +18,10 @@ fn required(standard: u64, channel1: u64, class1: u64, channel2: u64, class2: u6
         return None;
     }
     let at = column(channel1, channel2);
-    let by_table_a = separation_in(class1, class2, at);
     if standard == LESSER {
-        lesser_in(class1, class2, at).or(by_table_a)
+        lesser_in(class1, class2, at).or_else(|| separation_in(class1, class2, at))
     } else {
-        by_table_a
+        separation_in(class1, class2, at)
     }
 }
 

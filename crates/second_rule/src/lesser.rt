@@ -57,5 +57,8 @@ fn relation(low: u64, high: u64) -> u64 {
 pub(crate) fn lesser_in(class1: u64, class2: u64, column: u64) -> Option<u64>
     ensures { MatchOption result (Unit {0}) (λ r. (0 < r) × (r < 1000)) }
 {
+    if 2 < column {
+        return None;
+    }
     in_column(relation(class1.min(class2), class1.max(class2)), column)
 }

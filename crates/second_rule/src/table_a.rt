@@ -69,6 +69,9 @@ pub fn column(channel1: u64, channel2: u64) -> u64
 pub(crate) fn separation_in(class1: u64, class2: u64, column: u64) -> Option<u64>
     ensures { MatchOption result (Unit {0}) (λ r. (0 < r) × (r < 1000)) }
 {
+    if 3 < column {
+        return None;
+    }
     in_column(relation(class1.min(class2), class1.max(class2)), column)
 }
 

@@ -50,7 +50,7 @@ module _ {km : ℕ → ℕ → ℕ → ℕ} (table : Separations km) {p : Place}
   up-seconds = rw (w.north 7 (lit< tt)) (north-seconds (km p.class 7 0) widest-most)
 
   pub across-seconds : Seconds (east_at limits 7)
-  across-seconds = rw (w.east 7 (lit< tt)) (east-seconds limits.scale (km p.class 7 0) w.least.some widest-most)
+  across-seconds = rw (w.east 7 (lit< tt)) (east-seconds w.scale (km p.class 7 0) w.least.some widest-most)
 
   pub surrounds : (a : Around) → a.latitude ≡ p.latitude → a.longitude ≡ p.longitude → a.up ≡ north_at limits 7 → a.across ≡ east_at limits 7 → Surrounds km p a
   surrounds a lat lon up across =
@@ -68,4 +68,4 @@ module _ {km : ℕ → ℕ → ℕ → ℕ} (table : Separations km) {p : Place}
           go : Dec (lat_gap p.latitude q.latitude < north_of (km p.class q.class 0)) → (north_at limits 7 ≤ lat_gap p.latitude q.latitude) ⊎ (east_at limits 7 ≤ lon_gap p.longitude q.longitude) → limit_of (km p.class q.class 0) ≤ S p.latitude p.longitude q.latitude q.longitude
           go (no n) d = north_far table mine their (omega arith)
           go (yes l) (inl u) = absurd (omega (arith, u, l, w.north 7 (lit< tt), north-up _ _ wide))
-          go (yes l) (inr v) = east_far table mine their limits.scale w.least l (omega (arith, v, w.east 7 (lit< tt), east-up limits.scale _ _ (omega (arith, w.least.some)) wide))
+          go (yes l) (inr v) = east_far table mine their w.scale w.least l (omega (arith, v, w.east 7 (lit< tt), east-up w.scale _ _ (omega (arith, w.least.some)) wide))

@@ -3,7 +3,7 @@ use Rattle.std.specs.Prelude.{◌≡◌, List, [], ℕ, suc, ◌+◌, ◌-◌, �
 use Rattle.distance.specs.Bounds.{LeastScale}
 use Rattle.part73.specs.Columns.{column}
 use Rattle.part73.specs.Separations.{Separations}
-use Rattle.squares.specs.Squares.{limit_of}
+use Rattle.squares.specs.Squares.{limit_of, entry}
 use Rattle.spacing.specs.declared.Limits.{Limits}
 use Rattle.spacing.specs.declared.Place.{Place}
 use Rattle.spacing.specs.declared.Reach.{Reach}
@@ -30,18 +30,23 @@ east_at limits b = get_or limits.east b 0
 pub record LimitsAt (km : ℕ → ℕ → ℕ → ℕ) (p : Place) (limits : Limits) : Type 0 where
   pub square : (b c : ℕ) → b < 8 → c < 4 → square_at limits b c ≡ limit_of (km p.class b c)
   pub north : (b : ℕ) → b < 8 → north_at limits b ≡ north_of (km p.class b 0)
-  pub least : LeastScale p.latitude limits.scale
-  pub east : (b : ℕ) → b < 8 → east_at limits b ≡ east_of limits.scale (km p.class b 0)
+  pub scale : ℕ
+  pub least : LeastScale p.latitude scale
+  pub east : (b : ℕ) → b < 8 → east_at limits b ≡ east_of scale (km p.class b 0)
 
--- limits that are by a table of separations, whichever
+-- limits that are by a table of separations, whichever, and by some scale
 pub record Limited (km : ℕ → ℕ → ℕ → ℕ) (p : Place) (limits : Limits) : Type 0 where
   pub table : Separations km
-  pub at : LimitsAt km p limits
+  pub at : ∥ LimitsAt km p limits ∥₁
 
 -- limits that are by some table of separations
 pub record ByTable (p : Place) (limits : Limits) : Type 0 where
   pub km : ℕ → ℕ → ℕ → ℕ
   pub limited : Limited km p limits
+
+-- the limits of a class so far as its row of the table of squares has them
+pub record FromRow (squares : List (List (List ℕ))) (class : ℕ) (limits : Limits) : Type 0 where
+  pub square : (b c : ℕ) → b < 8 → c < 4 → square_at limits b c ≡ entry squares class b c
 
 -- separations of 1 to 290 km
 pub record InKm (separations : List ℕ) : Type 0 where

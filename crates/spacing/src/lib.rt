@@ -31,8 +31,6 @@ pub struct Limits {
     pub squares: [[u64; 4]; 8],
     pub north: [u64; 8],
     pub east: [u64; 8],
-    // No degree of longitude near the latitude is shorter: what `east` goes by, for the law on these limits.
-    pub scale: u64,
 }
 
 // How far along the channels two stations reach.

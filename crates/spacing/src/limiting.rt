@@ -41,11 +41,15 @@ pub fn limits_by(squares: &Squares, standard: u32, p: Place) -> Limits
 {
     let separations = standards::co_channel_of(standard, p.class);
     let scale = distance::least_scale(p.latitude);
+    // By its parts: the whole row at once would be copied by `memmove`, which the library for C asks of nobody.
+    let mut row = [[0; 4]; 8];
+    for b in 0..8 {
+        row[b] = squares[p.class][b];
+    }
     Limits {
-        squares: squares[p.class],
+        squares: row,
         north: cleared(&separations, SHORTEST_LATITUDE),
         east: cleared(&separations, scale),
-        scale,
     }
 }
 

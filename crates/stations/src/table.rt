@@ -55,16 +55,18 @@ impl<'a> Table<'a> {
         low
     }
 
-    // The first position from one on that a test picks, of those of the records: four of them a turn, as where they are judged.
+    // The first position from one on that a test picks, of those of the records: four of them a turn, as where they are judged. By
+    // hand: `for turn in 0..turns` divides wherever a walk goes on and counts beside the position, a tenth of what Check's walk takes
+    // (callgrind).
     pub fn next_where<F: Fn(usize) -> bool>(&self, from: usize, test: F) -> Option<usize>
         requires within { from ≤ count self.now.image.now }
         requires callable { (i : ℕ) → i < count self.now.image.now → F.pre test i }
         ensures { MatchOption result (Passing (λ j. F.post test j false) (count self.now.image.now) from (count self.now.image.now)) (λ i. Passing (λ j. F.post test j false) (count self.now.image.now) from i × (i < count self.now.image.now) × F.post test i true) }
     {
         let n = self.count();
-        let turns = (n - from) / 4;
-        for turn in 0..turns {
-            let j = from + 4 * turn;
+        let stop = n.saturating_sub(3);
+        let mut j = from;
+        while j < stop {
             if test(j) {
                 return Some(j);
             }
@@ -77,8 +79,9 @@ impl<'a> Table<'a> {
             if test(j + 3) {
                 return Some(j + 3);
             }
+            j += 4;
         }
-        for i in from + 4 * turns..n {
+        for i in j..n {
             if test(i) {
                 return Some(i);
             }

@@ -15,14 +15,6 @@ pub const SPACE: usize = 65_536;
 #[derive(Clone, Copy, Debug, PartialEq, Eq)]
 pub struct Unwritten;
 
-// A buffer, and the place after the text in it that waits to be handed over.
-#[derive(Drop)]
-pub struct Text<'a> {
-    pub bytes: &'a mut [u8],
-    pub at: usize,
-    ghost within: { at ≤ length bytes.now },
-}
-
 // A buffer for the input, or for a text.
 pub fn space() -> [u8; SPACE]
     ensures { 65536 ≡ length result }
@@ -49,27 +41,16 @@ pub fn hand(text: &[u8], mark: &mut usize) -> Result<(), Unwritten>
     Ok(())
 }
 
-impl Text<'_> {
-    // Hands over what waits.
-    pub fn hand_over(&self, mark: &mut usize) -> Result<(), Unwritten>
-        ensures { Tells (take self.now.at self.now.bytes.now) mark.old mark.new result }
-    {
-        hand(&self.bytes[..self.at], mark)
+// Makes room for so many bytes more behind a place in a text: where too few are left, what waits before it is handed over.
+pub fn room(text: &[u8], at: &mut usize, need: usize, mark: &mut usize) -> Result<(), Unwritten>
+    requires { (at.old ≤ length text.now) × (need ≤ length text.now) }
+    ensures need_in_bounds { at.new + need ≤ length text.now }
+    ensures roomed { Roomed text.now at.old mark.old at.new mark.new result }
+{
+    if need <= text.len() - *at {
+        return Ok(());
     }
-
-    // Makes room for so many bytes more: where too few are left, what waits is handed over.
-    pub fn room(&mut self, need: usize, mark: &mut usize) -> Result<(), Unwritten>
-        requires { need ≤ length self.old.bytes.now }
-        ensures same_text { self.new.bytes.now ≡ self.old.bytes.now }
-        ensures same_reference { self.new.bytes.ghost_name ≡ self.old.bytes.ghost_name }
-        ensures need_in_bounds { self.new.at + need ≤ length self.new.bytes.now }
-        ensures roomed { Roomed self.old.bytes.now self.old.at mark.old self.new.at mark.new result }
-    {
-        if need <= self.bytes.len() - self.at {
-            return Ok(());
-        }
-        let handed = self.hand_over(mark);
-        self.at = 0;
-        handed
-    }
+    let handed = hand(&text[..*at], mark);
+    *at = 0;
+    handed
 }

@@ -108,7 +108,10 @@ pub fn fault_of(table: &Table<'_>, wanted: Wanted) -> Result<(), Fault>
 pub fn study<'a>(table: &'a [u8], wanted: Wanted) -> Result<survey::Study<'a>, Fault>
     ensures { MatchResult result (λ s. Asks table.now wanted s.table.image.now s.terms s.place) (λ f. Denied table.now wanted f) }
 {
-    let table = Table::of(table)?;
+    let judged = Table::of(table);
+    let Ok(table) = judged else {
+        return Err(judged.unwrap_err());
+    };
     fault_of(&table, wanted)?;
     Ok(survey::Study {
         table,

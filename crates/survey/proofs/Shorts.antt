@@ -23,7 +23,7 @@ use Rattle.survey.specs.Ways.{near}
 use Rattle.survey.specs.Walking.{blocks}
 
 -- the limits of a walk are by the chosen table
-pub walk-limited : (standard : ℕ) {p : Place} {limits : Limits} → LimitsAt (chosen standard) p limits → Limited (chosen standard) p limits
+pub walk-limited : (standard : ℕ) {p : Place} {limits : Limits} → ∥ LimitsAt (chosen standard) p limits ∥₁ → Limited (chosen standard) p limits
 walk-limited standard held = record { table = chosen-table standard; at = held }
 
 -- what is reached says on which channels

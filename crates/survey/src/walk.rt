@@ -32,7 +32,8 @@ pub struct Study<'a> {
 pub struct Walk<'a> {
     pub study: Study<'a>,
     pub limits: Limits,
-    ghost held: { LimitsAt (chosen study.terms.standard) study.place limits },
+    // Truncated: of the scales in `LimitsAt` several would do.
+    ghost held: { ∥ LimitsAt (chosen study.terms.standard) study.place limits ∥₁ },
 }
 
 impl<'a> Walk<'a> {
@@ -73,7 +74,8 @@ impl<'a> Walk<'a> {
         short && self.study.terms.looks(r)
     }
 
-    // Marks the channels on which the record at position i stands in the way.
+    // Marks the channels on which the record at position i stands in the way. It takes S itself: `reach_of` is not inlined, and its
+    // call would be paid for each record.
     fn look_at(&self, i: usize, channels: Channels, marks: &mut [u16; CHANNEL_COUNT])
         requires { (Asked channels) × (i < count self.now.study.table.image.now) }
         ensures { let s = self.now.study in Struck (λ m. blocks (chosen_for s.terms) (looked s.terms) s.table.image.now (sited s.place m) i) channels.first channels.last i marks.old marks.new }
@@ -88,7 +90,8 @@ impl<'a> Walk<'a> {
         if self.limits.apart(place, theirs) || !self.study.terms.looks(r) {
             return;
         }
-        let reach = self.limits.reach_of(place, theirs);
+        let s = place.square_between(theirs);
+        let reach = self.limits.reach_at(theirs.class, s);
         strike(marks, c, reach, i as u16);
     }
 
@@ -114,9 +117,8 @@ fn outside(table: &Table<'_>, i: usize, frame: Frame) -> bool
     ensures { Outside frame (station_at table.now.image.now i) result }
 {
     let at = HEADER + RECORD * i;
-    let lat: u32 = wire::get(table.image, at + 8);
-    let lon: u32 = wire::get(table.image, at + 12);
-    frame.latitudes.away(lat) || frame.longitudes.away(lon)
+    frame.latitudes.away(wire::get(table.image, at + 8))
+        || frame.longitudes.away(wire::get(table.image, at + 12))
 }
 
 // The first position from one on whose record does not.

@@ -26,7 +26,7 @@ const NUMBERS: usize = 28;
 const REPEATED: usize = 27;
 
 // What was counted, and the digest.
-#[derive(Drop)]
+#[derive(Clone, Copy, Debug, PartialEq, Eq)]
 pub struct Notes {
     // The answers to each question, by number.
     answers: [[u64; NUMBERS]; 8],
@@ -107,14 +107,15 @@ impl Notes {
     }
 
     // Counts an answer, and mixes it into the digest.
-    pub fn note(&mut self, kind: Kind, answer: u64) {
+    pub fn note<K: Into<Kind>>(&mut self, kind: K, answer: u64) {
+        let kind: Kind = kind.into();
         let number = number_of(answer) as usize % NUMBERS;
         count(&mut self.answers[kind as usize][number]);
         self.mix(answer);
     }
 
     // Counts an answer to add, withdraw or move, by the versions of the table and of the image too where it is granted.
-    pub fn note_image(&mut self, kind: Kind, answer: u64, table: &[u8], image: &[u8]) {
+    pub fn note_image<K: Into<Kind>>(&mut self, kind: K, answer: u64, table: &[u8], image: &[u8]) {
         self.note(kind, answer);
         if number_of(answer) == 0 {
             count(&mut self.images[upper(table)][upper(image)]);
@@ -133,7 +134,8 @@ impl Notes {
     }
 
     // Counts a question by the lesser table, and whether Table A answers it otherwise.
-    pub fn note_lesser(&mut self, kind: Kind, lesser: u64, table_a: u64) {
+    pub fn note_lesser<K: Into<Kind>>(&mut self, kind: K, lesser: u64, table_a: u64) {
+        let kind: Kind = kind.into();
         count(&mut self.lesser[kind as usize]);
         if lesser != table_a {
             count(&mut self.otherwise[kind as usize]);

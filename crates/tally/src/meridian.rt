@@ -7,10 +7,15 @@ const CIRCLE: u32 = 1_296_000;
 // Two longitudes at most so many seconds from each other, the short way round, are near.
 const NEAR: u32 = 20_000;
 
-// The bytes of a table's header, and of a record, whose last four are the longitude.
+// The bytes of a table's header, of a record, and of what stands in it before its longitude.
 const HEADER: usize = 8;
 
 const RECORD: usize = 16;
+
+const BEFORE: usize = 12;
+
+// So many records have their longitude, or the first byte of it, within the first 65,536 bytes.
+const RECORDS: usize = 4_095;
 
 // Whether a plain difference is nearly the whole circle.
 fn nearly_round(seconds: u32) -> bool {
@@ -22,11 +27,12 @@ fn across(lon1: u32, lon2: u32) -> bool {
     nearly_round(lon1.wrapping_sub(lon2)) || nearly_round(lon2.wrapping_sub(lon1))
 }
 
-// Whether a longitude and that of a record are.
+// Whether a longitude and that of a record are; a longitude of which only a part is there is 0.
 fn across_record(lon: u32, record: &[u8]) -> bool {
-    match record.last_chunk::<4>() {
-        Some(bytes) => across(lon, u32::from_be_bytes(*bytes)),
-        None => false,
+    match record.get(BEFORE..) {
+        Some([a, b, c, d]) => across(lon, u32::from_be_bytes([*a, *b, *c, *d])),
+        Some([_, ..]) => across(lon, 0),
+        _ => false,
     }
 }
 
@@ -34,7 +40,8 @@ fn across_record(lon: u32, record: &[u8]) -> bool {
 fn any_across(table: &[u8], lon: u32) -> bool {
     match table.get(HEADER..) {
         Some(records) => records
-            .chunks_exact(RECORD)
+            .chunks(RECORD)
+            .take(RECORDS)
             .any(|record| across_record(lon, record)),
         None => false,
     }

@@ -22,31 +22,25 @@ pub fn first_four(rows: &[u32]) -> [u32; 4] {
     [at(rows, 0), at(rows, 1), at(rows, 2), at(rows, 3)]
 }
 
-// Whether a row starts at a place.
+// Whether a row starts at a place; past the end all numbers are 0.
 pub fn stands(rows: &[u32], place: usize, row: Row) -> bool {
-    match rows.get(place..) {
-        Some([a, b, c, ..]) => {
-            Row {
-                a: *a,
-                b: *b,
-                c: *c,
-            } == row
-        }
-        _ => false,
-    }
+    let rest = rows.get(place..).unwrap_or_default();
+    Row {
+        a: at(rest, 0),
+        b: at(rest, 1),
+        c: at(rest, 2),
+    } == row
 }
 
-// Whether a row has one of the new channels and moves an id, 0 for none.
+// Whether a row, or the part of one at the end, has one of the new channels and moves an id, 0 for none.
 fn moves(row: &[u32], channels: &RangeInclusive<u32>, id: u32) -> bool {
-    match row {
-        [channel, moved, ..] => channels.contains(channel) && *moved == id,
-        _ => false,
-    }
+    channels.contains(&at(row, 0)) && at(row, 1) == id
 }
 
-// How many rows from a new channel to another move an id, 0 for none.
+// How many rows from a new channel to another move an id, 0 for none, of as many as the paper gives.
 fn rows_with(rows: &[u32], channels: RangeInclusive<u32>, id: u32) -> usize {
-    rows.chunks_exact(3)
+    rows.chunks(3)
+        .take(MOST / 3)
         .filter(|row| moves(row, &channels, id))
         .count()
 }

@@ -5,9 +5,10 @@ use Rattle.std.proofs.Common.{append_assoc}
 use Prim.Native.Nat.{ℕ, zero, suc, min, ◌+◌, ◌-◌, ◌*◌, ◌/◌, ◌≤◌}
 use native.Mathlib.Decide.{dec_lt}
 use native.Mathlib.Omega.{arith}
-use lib.ListN.{length, length-append}
+use lib.ListN.{length, take, length-append}
+use lib.Seq.{get_or-take, length-take-le}
 use Rattle.ground.specs.Lists.{span, each}
-use Rattle.ground.proofs.Spans.{span_append, each_append}
+use Rattle.ground.proofs.Spans.{span_append, span-done, each_append, each_cong}
 use Rattle.lines.specs.Lines.{row_line, line_at}
 use Rattle.telling.specs.Texts.{lines_text}
 
@@ -39,6 +40,15 @@ lines_at (a ∷ b ∷ c ∷ vs) =
 abbrev pub lines_from : List ℕ → ℕ → ℕ → List ℕ
 lines_from rows from to = each (line_at rows) (span from (to - from))
 
+-- those of the first n numbers of a buffer
+pub all_lines : (rows : List ℕ) (n : ℕ) → n ≤ length rows → lines_text (take n rows) ≡ lines_from rows 0 (n / 3)
+unfolding line_at
+all_lines rows n h =
+    let e : length (take n rows) / 3 ≡ n / 3 - 0 = omega (arith, length-take-le n rows h) in
+    lines_at (take n rows)
+    ∙ ap (λ (k : ℕ). each (line_at (take n rows)) (span 0 k)) e
+    ∙ each_cong (line_at (take n rows)) (line_at rows) (n / 3 - 0) 0 (λ j lo hi. rw (get_or-take n rows (3 * j) 0 (omega arith), get_or-take n rows (3 * j + 1) 0 (omega arith), get_or-take n rows (3 * j + 2) 0 (omega arith)))
+
 -- those of some of them, and of the others
 pub batch : (rows : List ℕ) (from to count : ℕ) → from ≤ to → to ≤ count → lines_from rows from count ≡ lines_from rows from to ++ lines_from rows to count
 batch rows from to count h g =
@@ -48,6 +58,10 @@ batch rows from to count h g =
     ∙ ap (each (line_at rows)) (span_append (to - from) (count - to) from)
     ∙ each_append (line_at rows) (span from (to - from)) (span (from + (to - from)) (count - to))
     ∙ ap (λ (n : ℕ). lines_from rows from to ++ each (line_at rows) (span n (count - to))) k
+
+pub batches_done : (rows : List ℕ) (from count : ℕ) → count ≤ from → lines_from rows from count ≡ []
+unfolding each
+batches_done rows from count h = ap (each (line_at rows)) (span-done from count h)
 
 -- the lines of whole rows, and those of what follows them
 pub lines_append : (a b : List ℕ) (k : ℕ) → length a ≡ 3 * k → lines_text (a ++ b) ≡ lines_text a ++ lines_text b

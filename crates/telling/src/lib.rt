@@ -7,18 +7,42 @@ ghost use Rattle.lines.specs.Puts.{Puts};
 ghost use Rattle.part73.specs.Channels.{channel_count};
 ghost use Rattle.reasons.specs.Reason.{outcome_of};
 ghost use Rattle.refusals.specs.Faults.{refusal};
+ghost use Rattle.streams.specs.Pieces.{Roomed};
 ghost use Rattle.streams.specs.Tells.{Tells};
 ghost use Rattle.versions.specs.Version.{limit};
 ghost use Rattle.telling.specs.Texts.{lines_text, short_text, image_text, distance_text, reason_text, printed};
 ghost use Rattle.telling.specs.Told.{told, Within, is_refused};
 
-use lines::{LINE, put_clear, put_heading, put_lines, put_numbers, put_refusal};
+use lines::{LINE, Text, put_clear, put_heading, put_lines, put_numbers, put_refusal};
 use neighbours::Neighbour;
 use refusals::{Fault, Refusal};
-use streams::{Text, Unwritten, hand};
+use streams::{Unwritten, hand, room};
 
 // The numbers of the rows that are put between two looks at the room that is left.
 const BATCH: usize = 3 * 500;
+
+// Hands over what waits in a text.
+pub fn hand_over(text: &Text, mark: &mut usize) -> Result<(), Unwritten>
+    ensures { Tells (take text.now.at text.now.bytes.now) mark.old mark.new result }
+{
+    hand(&text.bytes[..text.at], mark)
+}
+
+// Makes room in a text for so many bytes more: where too few are left, what waits is handed over.
+pub fn make_room(text: &mut Text, need: usize, mark: &mut usize) -> Result<(), Unwritten>
+    requires { need ≤ length text.old.bytes.now }
+    ensures same_text { text.new.bytes.now ≡ text.old.bytes.now }
+    ensures same_reference { text.new.bytes.ghost_name ≡ text.old.bytes.ghost_name }
+    ensures need_in_bounds { text.new.at + need ≤ length text.new.bytes.now }
+    ensures roomed { Roomed text.old.bytes.now text.old.at mark.old text.new.at mark.new result }
+{
+    let mut at = text.at;
+    // Lent as `&` from the field, its bytes would not be known afterwards.
+    let bytes = &mut *text.bytes;
+    let made = room(bytes, &mut at, need, mark);
+    text.at = at;
+    made
+}
 
 // The refusal's line alone.
 fn tell_refusal(text: &mut [u8], fault: Fault, mark: &mut usize) -> Result<(), Unwritten>
@@ -27,7 +51,7 @@ fn tell_refusal(text: &mut [u8], fault: Fault, mark: &mut usize) -> Result<(), U
 {
     let mut line = Text { bytes: text, at: 0 };
     put_refusal(&mut line, Refusal::from(fault));
-    line.hand_over(mark)
+    hand_over(&line, mark)
 }
 
 // `short K`, and K lines.
@@ -38,10 +62,10 @@ fn tell_short(text: &mut [u8], rows: &[u32], n: usize, mark: &mut usize) -> Resu
     let mut lines = Text { bytes: text, at: 0 };
     put_heading(&mut lines, (n / 3) as u32);
     for batch in rows[..n].chunks(BATCH) {
-        lines.room(LINE * BATCH / 3, mark)?;
+        make_room(&mut lines, LINE * BATCH / 3, mark)?;
         put_lines(&mut lines, batch);
     }
-    lines.hand_over(mark)
+    hand_over(&lines, mark)
 }
 
 // The answer to a check.
@@ -117,7 +141,7 @@ pub fn tell_distance(
 {
     let mut line = Text { bytes: text, at: 0 };
     put_distance(&mut line, answer);
-    line.hand_over(mark)
+    hand_over(&line, mark)
 }
 
 // A reason, asked by a standard: its line, or the refusal's.
@@ -144,5 +168,5 @@ pub fn tell_reason(
 {
     let mut line = Text { bytes: text, at: 0 };
     put_reason(&mut line, why, standard);
-    line.hand_over(mark)
+    hand_over(&line, mark)
 }

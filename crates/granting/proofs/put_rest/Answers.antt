@@ -1,16 +1,15 @@
-use mathlib.Core.Path.{◌≡◌, sym, ap, ◌∙◌}
+use mathlib.Core.Path.{◌≡◌, ap, ◌∙◌}
 use mathlib.Core.List.{List, []}
-use Prim.Native.Nat.{ℕ, suc, ◌+◌, ◌-◌, ◌<◌}
+use Prim.Native.Nat.{ℕ, suc, ◌+◌, ◌<◌}
 use native.Mathlib.Numerals.{add-one}
 use native.Mathlib.Omega.{arith}
 use lib.ListN.{length, get_or, drop, drop_of_length-le}
-use lib.Seq.{sets, drop-cons}
-use borrow.Rule.Slice.PartMut.{put_mid}
+use lib.Seq.{sets, drop-cons, take_all}
 use Rattle.ground.specs.Lists.{each}
 use Rattle.stations.specs.Encode.{record_of}
 use Rattle.stations.specs.declared.Station.{Station}
 use Rattle.stations.proofs.Back.{length_record, length_body}
-use Rattle.granting.proofs.Splicing.{sets_both, put_run}
+use Rattle.granting.proofs.Splicing.{sets_both}
 use Rattle.granting.proofs.put_rest.Goals as goal
 
 -- one record more
@@ -39,10 +38,8 @@ returns c =
     let at = c.loop-r in
     let h = c.loop-r-test.false in
     let done : drop at.r-index rs ≡ [] = drop_of_length-le rs {i = at.r-index} h in
-    let size : at.at + length later - at.at ≡ length later = omega arith in
-    let copied : c.copy_from_slice.new.self ≡ later = c.copy_from_slice.ensures.after in
     let whole : at.rest ≡ sets c.args.rest.now 0 (each record_of rs) = rw done at at.invariant.todo in
-    ap (put_mid at.at (at.at + length later - at.at) at.rest) copied
-    ∙ put_run at.at (at.at + length later - at.at) at.rest later (sym size) (omega arith)
+    c.copy.ensures
+    ∙ ap (sets at.rest at.at) (take_all (length later) later (omega arith))
     ∙ ap (λ (l : List ℕ). sets l at.at later) whole
     ∙ sets_both (each record_of rs) later c.args.rest.now 0 at.at (omega (arith, length_body rs))

@@ -1,9 +1,10 @@
-use mathlib.Core.Path.{◌≡◌, sym, ◌∙◌}
+use mathlib.Core.Path.{◌≡◌, sym, ap, ◌∙◌}
 use Rattle.std.specs.Prelude.{Err}
 use Prim.Native.Nat.{ℕ}
 use native.Mathlib.Omega.{arith}
 use borrow.Author.Rules.{rules}
 use borrow.Rule.Slice.PartMut.{same_len_mid}
+use Rattle.versions.specs.Version.{version_for}
 use Rattle.granting.proofs.Splicing.{enough, sizes, tail_long, no_room, granted}
 use Rattle.granting.proofs.splice.Goals as goal
 
@@ -24,11 +25,12 @@ overflow_mul-from c = omega (arith, sizes c.requires)
 pub overflow_add-from : goal.overflow_add-from
 overflow_add-from c = omega (arith, sizes c.requires)
 
-pub slice_bounds-copy_from_slice-end : goal.slice_bounds-copy_from_slice-end
-slice_bounds-copy_from_slice-end c = omega (arith, sizes c.requires, enough _ _ (sym c.room_fault.ensures ∙ c.in_ok-room_fault.was))
-
-pub slice_bounds-copy_from_slice-end-2 : goal.slice_bounds-copy_from_slice-end-2
-slice_bounds-copy_from_slice-end-2 c = omega (arith, sizes c.requires)
+pub copy-requires : goal.copy-requires
+copy-requires c =
+    record {
+      source = omega (arith, sizes c.requires, c.requires.front);
+      room = omega (arith, sizes c.requires, c.requires.front, enough _ _ (sym c.room_fault.ensures ∙ c.in_ok-room_fault.was));
+    }
 
 pub slice_bounds-put_rest-count : goal.slice_bounds-put_rest-count
 slice_bounds-put_rest-count c = omega (arith, sizes c.requires, same_len_mid {X = ℕ}, enough _ _ (sym c.room_fault.ensures ∙ c.in_ok-room_fault.was))
@@ -49,4 +51,4 @@ pub returns : goal.returns
 returns c =
     rw c.count_of.ensures
     (granted c.args.records.now c.requires (λ i. (c.type_inv.table i).fits) (rw c.count_of.ensures at (enough _ _ (sym c.room_fault.ensures ∙ c.in_ok-room_fault.was)))
-    (rw c.count_of.ensures at c.version_for-version.ensures) (rw c.count_of.ensures at c.put_header.ensures) c.copy_from_slice.ensures.after c.put_rest.ensures)
+    (c.version_for-version.ensures ∙ ap version_for (omega (arith, c.count_of.ensures))) (rw c.count_of.ensures at c.put_header.ensures) c.copy.ensures c.put_rest.ensures)

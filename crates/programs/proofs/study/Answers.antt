@@ -1,18 +1,12 @@
 use mathlib.Core.Path.{◌≡◌, sym, ◌∙◌}
-use Prim.Native.Nat.{ℕ, ◌-◌}
+use Prim.Native.Nat.{ℕ}
 use native.Mathlib.Omega.{arith}
-use mathlib.Core.List.{List}
-use lib.ListN.{take, drop, length, length-drop}
-use lib.Seq.{take_all}
+use Rattle.asking.proofs.Inputs.{rest}
 use Rattle.streams.proofs.Pieces.{tells_as}
 use Rattle.subjects.specs.Subjects.{after_terms}
 use Rattle.subjects.proofs.Subjects.{has_terms}
 use Rattle.programs.proofs.Printing.{study-printed}
 use Rattle.programs.proofs.study.Goals as goal
-
--- the bytes from a place on
-rest : (k : ℕ) (input : List ℕ) → take (length input - k) (drop k input) ≡ drop k input
-rest k input = take_all (length input - k) (drop k input) (simp length-drop (omega arith))
 
 pub slice_bounds-check-count : goal.slice_bounds-check-count
 slice_bounds-check-count c = has_terms _ _ (sym c.subject_of.ensures ∙ c.in-Check.is) (λ q. let z : ◌≡◌ {A = ℕ} 0 1 = cc in omega arith)

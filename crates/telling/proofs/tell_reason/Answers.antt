@@ -1,6 +1,6 @@
 use Rattle.streams.proofs.Pieces.{tells_as}
-use Rattle.telling.proofs.Waiting.{waiting}
+use Rattle.telling.proofs.Waiting.{text_waiting}
 use Rattle.telling.proofs.tell_reason.Goals as goal
 
 pub returns : goal.returns
-returns c = tells_as (waiting c.put_reason.ensures) c.hand_over.ensures
+returns c = tells_as (text_waiting c.put_reason.ensures) c.hand_over.ensures

@@ -6,7 +6,7 @@ use Rattle.stations.specs.declared.Station.{Station}
 use Rattle.planning.specs.Flags.{row_of}
 use Rattle.listing.specs.Listing.{move_rows}
 use Rattle.ground.proofs.Writes.{wrote_as, wrote_none}
-use Rattle.listing.proofs.Marking.{rows_free, rows_many, rows_lone, moves_bound}
+use Rattle.listing.proofs.Marking.{rows_free, rows_many, rows_lone_at, moves_bound}
 use Rattle.listing.proofs.Findings.list_channel.Goals as goal
 
 pub returns-then-mark-eq0-clause-puts : goal.returns-then-mark-eq0-clause-puts
@@ -18,7 +18,7 @@ returns-in-Some-clause-puts c =
     let row = row_of s.channels.first s.moves.now c.args.c in
     let id : c.station_at-id.result.id ≡ (station_at s.table.image.now c.in-Some.i).id = ap (λ (r : Station). r.id) c.station_at-id.ensures in
     let p = c.list_moves.ensures in
-    record { wrote = wrote_as (ap (λ i. move_rows row i c.args.c) id ∙ rows_lone _ _ _ _ c.in-Some.i c.in-Some.ensures.0 c.in-Some.ensures.1) p.wrote; same_reference = p.same_reference }
+    record { wrote = wrote_as (ap (λ i. move_rows row i c.args.c) id ∙ rows_lone_at _ _ _ _ c.in-Some.i c.in-Some.ensures.0 c.in-Some.ensures.1) p.wrote; same_reference = p.same_reference }
 
 pub returns-in-Some-clause-upper_bound : goal.returns-in-Some-clause-upper_bound
 returns-in-Some-clause-upper_bound c =

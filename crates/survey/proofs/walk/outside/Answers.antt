@@ -30,21 +30,21 @@ overflow_add-at c = omega (arith, few _ c.args.table.now.accepted, c.requires)
 pub overflow_add-at-2 : goal.overflow_add-at-2
 overflow_add-at-2 c = omega (arith, few _ c.args.table.now.accepted, c.requires)
 
-pub get-lat-requires : goal.get-lat-requires
-get-lat-requires c = omega (arith, room (goal.at.get-lat-requires c).Start)
+pub get-requires : goal.get-requires
+get-requires c = omega (arith, room (goal.at.get-requires c).Start)
 
-pub overflow_add-at-3 : goal.overflow_add-at-3
-overflow_add-at-3 c = omega (arith, few _ c.args.table.now.accepted, c.requires)
+pub overflow_add-at-else-away : goal.overflow_add-at-else-away
+overflow_add-at-else-away c = omega (arith, few _ c.args.table.now.accepted, c.requires)
 
-pub get-lon-requires : goal.get-lon-requires
-get-lon-requires c = omega (arith, room (goal.at.get-lon-requires c).Start)
+pub get-requires-else-away : goal.get-requires-else-away
+get-requires-else-away c = omega (arith, room (goal.at.get-requires-else-away c).Start)
 
 pub returns-then-away : goal.returns-then-away
 unfolding station_at
-returns-then-away c = let g = c.get-lat in
+returns-then-away c = let g = c.get in
     record { told = λ t. record { either = inl (read _ g.type_inv g.ensures (sym c.away.ensures ∙ c.if-away.true)) } }
 
 pub returns-else-away : goal.returns-else-away
 unfolding station_at
-returns-else-away c = let g = c.get-lon in
+returns-else-away c = let g = c.get-else-away in
     record { told = λ t. record { either = inr (read _ g.type_inv g.ensures (sym c.away-else-away.ensures ∙ t)) } }

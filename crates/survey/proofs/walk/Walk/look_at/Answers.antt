@@ -1,10 +1,13 @@
 use mathlib.Core.Path.{◌≡◌, sym, ap, ◌∙◌}
 use mathlib.Core.Bool.{false}
+use mathlib.Core.Logic.{∥∥₁_elim}
 use Prim.Native.Nat.{ℕ, ◌≤◌}
 use native.Mathlib.Omega.{arith}
+use Rattle.std.proofs.Props.{props}
 use Rattle.part73.proofs.Chosen.{chosen-table}
 use Rattle.spacing.specs.Pair.{sited}
 use Rattle.spacing.specs.Reaching.{InRange, Reaches}
+use Rattle.spacing.proofs.Reaching.{falling, reaches}
 use Rattle.stations.specs.Image.{station_at}
 use Rattle.survey.specs.Ways.{place_of, looked, chosen_for}
 use Rattle.survey.specs.Walking.{blocks}
@@ -13,7 +16,7 @@ use Rattle.survey.proofs.Records.{Known, known_at, few}
 use Rattle.marking.proofs.Marks.{struck_none, struck_as, struck_part}
 use Rattle.survey.proofs.Shorts.{walk-limited, hit_at, untouched_at, blocks-looked, blocks_aside, blocks-spaced}
 use Rattle.survey.proofs.walk.Walk.look_at.Goals as goal
-use Rattle.survey.proofs.walk.Walk.look_at.Goals.{After-looks, After-place_of-theirs, After-reach_of-reach, Start, then-apart-via-then-apart, then-apart-via-else-apart+then-not-looks}
+use Rattle.survey.proofs.walk.Walk.look_at.Goals.{After-looks, After-place_of-theirs, After-reach_at-reach, Start, then-apart-via-then-apart, then-apart-via-else-apart+then-not-looks}
 
 known : (s : Start) → Known (station_at s.args.self.now.study.table.image.now s.args.i)
 known s = known_at _ s.args.self.now.study.table.accepted s.args.i s.requires.1
@@ -53,23 +56,30 @@ returns-then-apart c =
           nobody (goal.at.returns-then-apart c).Start (λ m lo hi. blocks_aside _ _ _ _ _ (sym (w.looks.ensures ∙ ap (looked c.args.self.now.study.terms) c.station_at-r.ensures) ∙ w.if-not-looks.true))
     ]
 
-pub reach_of-reach-requires : goal.reach_of-reach-requires
-reach_of-reach-requires c = (c.args.self.now.study.placed, there (goal.at.reach_of-reach-requires c).After-place_of-theirs)
+pub square_between-s-requires : goal.square_between-s-requires
+square_between-s-requires c = (c.args.self.now.study.placed, there (goal.at.square_between-s-requires c).After-place_of-theirs)
+
+pub reach_at-reach-requires : goal.reach_at-reach-requires
+reach_at-reach-requires c = (there (goal.at.reach_at-reach-requires c).After-place_of-theirs).known
 
 -- how far the two reach
-reached : (c : After-reach_of-reach) → Reaches (chosen_for c.args.self.now.study.terms) c.args.self.now.study.place c.place_of-theirs.result c.reach_of-reach.result
-reached c = c.reach_of-reach.ensures _ (walk-limited c.args.self.now.study.terms.standard c.args.self.now.held)
+reached : (c : After-reach_at-reach) → InRange c.place_of-theirs.result → Reaches (chosen_for c.args.self.now.study.terms) c.args.self.now.study.place c.place_of-theirs.result c.reach_at-reach.result
+reached c q =
+    let w = c.args.self.now in
+    let l = walk-limited w.study.terms.standard w.held in
+    ∥∥₁_elim l.at (hlevel props) (λ a. reaches l.table a w.study.placed q (rw c.square_between-s.ensures at (c.reach_at-reach.ensures (falling l.table a w.study.placed q))))
 
 pub overflow_cast-i : goal.overflow_cast-i
 overflow_cast-i c = omega (arith, few _ c.args.self.now.study.table.accepted, c.requires.1)
 
 pub strike-requires : goal.strike-requires
 strike-requires c = let k = known (goal.at.strike-requires c).Start in
-    rw c.station_at-r.ensures (omega (arith, few _ c.args.self.now.study.table.accepted, c.requires.1), k.low, k.high, (reached (goal.at.strike-requires c).After-reach_of-reach).most)
+    rw c.station_at-r.ensures (omega (arith, few _ c.args.self.now.study.table.accepted, c.requires.1), k.low, k.high, (reached (goal.at.strike-requires c).After-reach_at-reach (there (goal.at.strike-requires c).After-place_of-theirs)).most)
 
 pub returns : goal.returns
 returns c = let s = c.args.self.now.study in
-    let far = rw (theirs (goal.at.returns c).After-place_of-theirs) at (reached (goal.at.returns c).After-reach_of-reach) in
+    let at = goal.at.returns c in
+    let far = rw (theirs at.After-place_of-theirs) at (reached at.After-reach_at-reach (there at.After-place_of-theirs)) in
     struck_part c.requires.0.low c.requires.0.high
     (struck_as (λ m lo hi. hit_at far m _ lo ∙ blocks-looked (chosen_for s.terms) (looked s.terms) s.table.image.now (sited s.place m) c.args.i (sym (c.looks.ensures ∙ ap (looked s.terms) c.station_at-r.ensures) ∙ c.if-not-looks.false))
     (rw c.station_at-r.ensures at c.strike.ensures))
