@@ -102,12 +102,16 @@ impl<'a> Walk<'a> {
     {
         let table = &self.study.table;
         let frame = Frame::around(self.study.place, &self.limits);
-        wipe(marks);
+        // An array of its own: a write into the caller's may change the table for all that the compiler knows, which would read the
+        // count again after each record. `wipe` says what the zeros are, and is no second clearing.
+        let mut own = [0; CHANNEL_COUNT];
+        wipe(&mut own);
         let mut from: usize = 0;
         while let Some(i) = next_close(table, from, frame) {
-            self.look_at(i, channels, marks);
+            self.look_at(i, channels, &mut own);
             from = i + 1;
         }
+        *marks = own;
     }
 }
 

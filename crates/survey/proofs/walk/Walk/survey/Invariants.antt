@@ -8,7 +8,7 @@ use Rattle.survey.proofs.walk.Walk.survey.Given as goal
 
 abbrev pub invariant-loop-i : goal.invariant-loop-i
 invariant-loop-i l = let s = l.self.study in
-    (l.from ≤ count s.table.image.now) × Marked (λ m j. blocks (chosen_for s.terms) (looked s.terms) s.table.image.now (sited s.place m) j) l.channels.first l.channels.last l.from l.marks
+    (l.from ≤ count s.table.image.now) × Marked (λ m j. blocks (chosen_for s.terms) (looked s.terms) s.table.image.now (sited s.place m) j) l.channels.first l.channels.last l.from l.own
 
 abbrev pub decreases-loop-i : goal.decreases-loop-i
 decreases-loop-i l = count l.self.study.table.image.now - l.from
