@@ -1,5 +1,5 @@
 -- The ways through a change, and what each answers. Assumes nothing.
-use Rattle.std.specs.Prelude.{Ok, Err, Some}
+use Rattle.std.specs.Prelude.{Ok, Err, Some, None}
 use mathlib.Core.Path.{◌≡◌, refl, sym, ap, ◌∙◌}
 use mathlib.Core.Bool.{true, false, not}
 use mathlib.Core.List.{List}
@@ -14,10 +14,11 @@ use Rattle.refusals.specs.Faults.{Answer}
 use Rattle.refusals.specs.declared.Fault.{Fault}
 use Rattle.refusals.specs.declared.Fault.TheVariants.{AskedChannel, IdZero, IdPresent, Short, TableFull, IdAbsent, NotMovable}
 use Rattle.versions.specs.Version.{limit}
-use Rattle.stations.specs.Image.{stations, count, judged, Accepted}
+use Rattle.stations.specs.Image.{station_at, stations, count, judged, Accepted}
 use Rattle.stations.specs.Encode.{encode}
 use Rattle.stations.specs.Lists.{has_id, with_id, movable, onto, insert, without, rechannel}
 use Rattle.stations.specs.declared.Station.{Station}
+use Rattle.stations.proofs.Ids.{with_none}
 use Rattle.desk.specs.Answers.{grant, Answered}
 use Rattle.desk.specs.Asked.{outside}
 use Rattle.desk.proofs.Answers.{denied, table-refused, table-passed}
@@ -25,7 +26,7 @@ use Rattle.finding.specs.Asking.{found_at, first_of}
 use Rattle.finding.specs.Conflicts.{conflicts}
 use Rattle.changes.specs.Changes.{Change, add, withdraw, move, Decision, asked_of, entered, entering, decide, written, changed_for}
 use Rattle.changes.specs.declared.Newcomer.{Newcomer}
-use Rattle.changes.proofs.There.{is_there, is_absent, is_one}
+use Rattle.changes.proofs.There.{is_there, is_absent, is_one, is_none, with_at}
 
 -- ---- from a decision to the answer
 
@@ -108,3 +109,19 @@ module _ (ss : List Station) (id channel : ℕ) where
         pub move-granted : some (conflicts (onto channel x)) ss ≡ false → decide ss (move id channel) ≡ Ok (rechannel id channel ss)
         unfolding decide
         move-granted h = sym (on _ _ _ inside (sym (at _ _ ∙ sym (on _ _ _ (ap not free) (on _ _ _ h refl)))))
+
+-- of an accepted table, by what `find` and `first_conflict` answer
+module _ (s : List ℕ) (id channel : ℕ) (inside : outside channel ≡ false) (p : ℕ) where
+  pub move_absent_at : found_at id (stations s) ≡ Err p → decide (stations s) (move id channel) ≡ Err IdAbsent
+  move_absent_at f = move-absent _ _ _ inside (with_none _ _ _ _ (is_absent _ _ _ f).0)
+
+  module _ (e : Accepted s) (there : found_at id (stations s) ≡ Ok p) where
+    pub move_fixed_at : movable (station_at s p) ≡ false → decide (stations s) (move id channel) ≡ Err (NotMovable p)
+    move_fixed_at h = move_fixed _ _ _ inside _ (with_at s e _ _ there) p (is_there _ _ _ there).1 h
+
+    module _ (free : movable (station_at s p) ≡ true) where
+      pub move_short_at : (q : ℕ) → first_of (conflicts (onto channel (station_at s p))) (stations s) ≡ Some q → decide (stations s) (move id channel) ≡ Err (Short q)
+      move_short_at q f = let t = is_one _ _ _ f in move-short _ _ _ inside _ (with_at s e _ _ there) free q (sym t.1) t.0
+
+      pub move_granted_at : first_of (conflicts (onto channel (station_at s p))) (stations s) ≡ None → decide (stations s) (move id channel) ≡ Ok (rechannel id channel (stations s))
+      move_granted_at f = move-granted _ _ _ inside _ (with_at s e _ _ there) free (is_none _ _ f)

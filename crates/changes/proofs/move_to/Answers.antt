@@ -11,9 +11,8 @@ use Rattle.stations.specs.declared.Station.{Station}
 use Rattle.survey.proofs.Records.{known_at}
 use Rattle.finding.specs.Asking.{first_of}
 use Rattle.finding.specs.Conflicts.{conflicts}
-use Rattle.stations.proofs.Ids.{with_none}
-use Rattle.changes.proofs.There.{is_there, is_absent, is_one, is_none, inside, count_small, one_within, within, own_id, with_at}
-use Rattle.changes.proofs.Ways.{table_out, refused_by, granted_by, move-outside, move-absent, move_fixed, move-short, move-granted}
+use Rattle.changes.proofs.There.{inside, count_small, one_within, within, own_id}
+use Rattle.changes.proofs.Ways.{table_out, refused_by, granted_by, move-outside, move_absent_at, move_fixed_at, move_short_at, move_granted_at}
 use Rattle.changes.proofs.move_to.Goals as goal
 use Rattle.changes.proofs.move_to.Goals.{After-first_conflict, After-station_at-x}
 
@@ -37,10 +36,8 @@ pub returns-then-is_outside : goal.returns-then-is_outside
 returns-then-is_outside c = rw (← c.in-Ok.ensures) (refused_by _ _ _ c.in-Ok.table.accepted (move-outside _ _ _ (sym c.is_outside.ensures ∙ c.if-is_outside.true)))
 
 pub returns-in_default-find : goal.returns-in_default-find
-returns-in_default-find c =
-    let absent = is_absent _ _ _ (sym c.find.ensures ∙ c.in_default-find.is) in
-    rw (← c.in-Ok.ensures)
-    (refused_by _ _ _ c.in-Ok.table.accepted (move-absent _ _ _ (sym c.is_outside.ensures ∙ c.if-is_outside.false) (with_none _ _ _ _ absent.0)))
+returns-in_default-find c = rw (← c.in-Ok.ensures)
+    (refused_by _ _ _ c.in-Ok.table.accepted (move_absent_at _ _ _ (sym c.is_outside.ensures ∙ c.if-is_outside.false) _ (sym c.find.ensures ∙ c.in_default-find.is)))
 
 pub station_at-x-requires : goal.station_at-x-requires
 station_at-x-requires c = within _ c.in-Ok.table.accepted _ _ (sym c.find.ensures ∙ c.in-Ok-find.is)
@@ -52,9 +49,7 @@ pub returns-then-not-is_movable : goal.returns-then-not-is_movable
 returns-then-not-is_movable c =
     let e = c.in-Ok.table.accepted in
     let fixed = ap movable (sym c.station_at-x.ensures) ∙ sym c.is_movable.ensures ∙ c.if-not-is_movable.true in
-    let there = sym c.find.ensures ∙ c.in-Ok-find.is in
-    rw (← c.in-Ok.ensures)
-    (refused_by _ _ _ e (move_fixed _ _ _ (sym c.is_outside.ensures ∙ c.if-is_outside.false) _ (with_at _ e _ _ there) _ (is_there _ _ _ there).1 fixed))
+    rw (← c.in-Ok.ensures) (refused_by _ _ _ e (move_fixed_at _ _ _ (sym c.is_outside.ensures ∙ c.if-is_outside.false) _ e (sym c.find.ensures ∙ c.in-Ok-find.is) fixed))
 
 pub first_conflict-requires : goal.first_conflict-requires
 first_conflict-requires c =
@@ -70,11 +65,9 @@ overflow_cast-result-in-Some c = omega (arith, one_within _ c.in-Ok.table.accept
 pub returns-in-Some : goal.returns-in-Some
 returns-in-Some c =
     let e = c.in-Ok.table.accepted in
-    let there = sym c.find.ensures ∙ c.in-Ok-find.is in
     let w = (goal.at.returns-in-Some c).After-first_conflict in
-    let one = is_one _ _ _ (sym (way w) ∙ c.in-Some.is) in
     rw (← c.in-Ok.ensures)
-    (refused_by _ _ _ e (move-short _ _ _ (sym c.is_outside.ensures ∙ c.if-is_outside.false) _ (with_at _ e _ _ there) (free w) _ (sym one.1) one.0))
+    (refused_by _ _ _ e (move_short_at _ _ _ (sym c.is_outside.ensures ∙ c.if-is_outside.false) _ e (sym c.find.ensures ∙ c.in-Ok-find.is) (free w) _ (sym (way w) ∙ c.in-Some.is)))
 
 pub grant_move-requires : goal.grant_move-requires
 grant_move-requires c =
@@ -86,7 +79,6 @@ returns c =
     let e = c.in-Ok.table.accepted in
     let there = sym c.find.ensures ∙ c.in-Ok-find.is in
     let w = (goal.at.returns c).After-first_conflict in
-    let clear = is_none _ _ (sym (way w) ∙ c.in_default-first_conflict.is) in
     let own : c.station_at-x.result.id ≡ c.args.id = ap (λ (r : Station). r.id) c.station_at-x.ensures ∙ own_id _ e _ _ there in
     rw (← c.in-Ok.ensures)
-    (granted_by _ _ e (move-granted _ _ _ (sym c.is_outside.ensures ∙ c.if-is_outside.false) _ (with_at _ e _ _ there) (free w) clear) (rw own at c.grant_move.ensures))
+    (granted_by _ _ e (move_granted_at _ _ _ (sym c.is_outside.ensures ∙ c.if-is_outside.false) _ e there (free w) (sym (way w) ∙ c.in_default-first_conflict.is)) (rw own at c.grant_move.ensures))
