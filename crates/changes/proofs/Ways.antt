@@ -110,7 +110,7 @@ module _ (ss : List Station) (id channel : ℕ) where
         unfolding decide
         move-granted h = sym (on _ _ _ inside (sym (at _ _ ∙ sym (on _ _ _ (ap not free) (on _ _ _ h refl)))))
 
--- of an accepted table, by what `find` and `first_conflict` answer
+-- of the stations of a table, by what `find` and `first_conflict` answer
 module _ (s : List ℕ) (id channel : ℕ) (inside : outside channel ≡ false) (p : ℕ) where
   pub move_absent_at : found_at id (stations s) ≡ Err p → decide (stations s) (move id channel) ≡ Err IdAbsent
   move_absent_at f = move-absent _ _ _ inside (with_none _ _ _ _ (is_absent _ _ _ f).0)

@@ -1,13 +1,12 @@
 use mathlib.Core.Path.{◌≡◌, sym, ap, ◌∙◌}
 use mathlib.Core.Bool.{false}
-use mathlib.Core.Logic.{∥∥₁_elim}
 use Prim.Native.Nat.{ℕ, ◌≤◌}
 use native.Mathlib.Omega.{arith}
-use Rattle.std.proofs.Props.{props}
 use Rattle.part73.proofs.Chosen.{chosen-table}
 use Rattle.spacing.specs.Pair.{sited}
 use Rattle.spacing.specs.Reaching.{InRange, Reaches}
 use Rattle.spacing.proofs.Reaching.{falling, reaches}
+use Rattle.spacing.proofs.Scales.{scaled}
 use Rattle.stations.specs.Image.{station_at}
 use Rattle.survey.specs.Ways.{place_of, looked, chosen_for}
 use Rattle.survey.specs.Walking.{blocks}
@@ -66,8 +65,9 @@ reach_at-reach-requires c = (there (goal.at.reach_at-reach-requires c).After-pla
 reached : (c : After-reach_at-reach) → InRange c.place_of-theirs.result → Reaches (chosen_for c.args.self.now.study.terms) c.args.self.now.study.place c.place_of-theirs.result c.reach_at-reach.result
 reached c q =
     let w = c.args.self.now in
-    let l = walk-limited w.study.terms.standard w.held in
-    ∥∥₁_elim l.at (hlevel props) (λ a. reaches l.table a w.study.placed q (rw c.square_between-s.ensures at (c.reach_at-reach.ensures (falling l.table a w.study.placed q))))
+    let table = chosen-table w.study.terms.standard in
+    let limits = scaled w.held in
+    reaches table limits w.study.placed q (rw c.square_between-s.ensures at (c.reach_at-reach.ensures (falling table limits w.study.placed q)))
 
 pub overflow_cast-i : goal.overflow_cast-i
 overflow_cast-i c = omega (arith, few _ c.args.self.now.study.table.accepted, c.requires.1)
