@@ -2,7 +2,7 @@ pub mod Places
 pub mod Rule
 pub mod Reaching
 pub mod Limited
-pub mod Scales
+pub mod Untruncated
 pub mod Shortcuts
 pub mod Boxes
 pub mod Meaning

@@ -6,7 +6,7 @@ use Rattle.part73.proofs.Chosen.{chosen-table}
 use Rattle.spacing.specs.Pair.{sited}
 use Rattle.spacing.specs.Reaching.{InRange, Reaches}
 use Rattle.spacing.proofs.Reaching.{falling, reaches}
-use Rattle.spacing.proofs.Scales.{scaled}
+use Rattle.spacing.proofs.Untruncated.{untruncated}
 use Rattle.stations.specs.Image.{station_at}
 use Rattle.survey.specs.Ways.{place_of, looked, chosen_for}
 use Rattle.survey.specs.Walking.{blocks}
@@ -66,7 +66,7 @@ reached : (c : After-reach_at-reach) → InRange c.place_of-theirs.result → Re
 reached c q =
     let w = c.args.self.now in
     let table = chosen-table w.study.terms.standard in
-    let limits = scaled w.held in
+    let limits = untruncated w.held in
     reaches table limits w.study.placed q (rw c.square_between-s.ensures at (c.reach_at-reach.ensures (falling table limits w.study.placed q)))
 
 pub overflow_cast-i : goal.overflow_cast-i

@@ -26,7 +26,7 @@ dec_each f g (suc n) = go (ℕ_discrete (f n) (g n)) (dec_each f g n)
     go _ (no u) = no (λ w. u (λ b h. w b (omega (arith, h))))
 
 module _ (km : ℕ → ℕ → ℕ → ℕ) (p : Place) (limits : Limits) where
-  -- the seconds of longitude go by a scale
+  -- the seconds of longitude go by a scale, of 100,000,000 or more
   abbrev By : ℕ → Type 0
   By r = (100000000 ≤ r) × ((b : ℕ) → b < 8 → east_at limits b ≡ east_of r (km p.class b 0))
 
@@ -55,16 +55,17 @@ module _ (km : ℕ → ℕ → ℕ → ℕ) (p : Place) (limits : Limits) where
       go (no u) (yes e) _ = absurd (u (subst By (sym e) w))
       go (no u) (no f) rest = rest (omega (arith, h))
 
-  -- of all lengths of a degree that may be
+  -- of all that a `LeastScale` may be
   least : ℕ
-  least = first_by 1200000000 100000000
+  least = first_by 1100000001 100000000
 
   least_is : (w : LimitsAt km p limits) → By least × (least ≤ w.scale)
   unfolding least
-  least_is w = first_is 1200000000 100000000 w.scale w.least.some (omega (arith, w.least.most)) (w.least.some, w.east)
+  least_is w = first_is 1100000001 100000000 w.scale w.least.some (omega (arith, w.least.most)) (w.least.some, w.east)
 
-pub scaled : {km : ℕ → ℕ → ℕ → ℕ} {p : Place} {limits : Limits} → ∥ LimitsAt km p limits ∥₁ → LimitsAt km p limits
-scaled {km} {p} {limits} held =
+-- a truncated `LimitsAt` is one
+pub untruncated : {km : ℕ → ℕ → ℕ → ℕ} {p : Place} {limits : Limits} → ∥ LimitsAt km p limits ∥₁ → LimitsAt km p limits
+untruncated {km} {p} {limits} held =
     let at = least_is km p limits in
     record {
       square = ∥∥₁_elim held (hlevel props) (λ w. w.square);
